@@ -1,0 +1,133 @@
+#!/usr/bin/env python3
+"""Times the proved program on theory files of growing size.
+
+Usage: bench/solve.py [PROGRAM]
+
+PROGRAM is crates/grind_main/out/grind_main, which `./grind` builds. For each family of files the
+table gives the bytes of the file, the seconds of the fastest of three runs, the growth against the
+file of half the size, and the peak memory as a multiple of the file.
+"""
+
+import os
+import sys
+import tempfile
+import time
+
+LIMIT = 4_194_304
+ROUNDS = 3
+
+
+def many_goals(size):
+    """Small goals, every second of them closed."""
+    parts = ["sort S. fun f(S): S.\n"]
+    length = len(parts[0])
+    number = 0
+    while True:
+        right = "f(a)" if number % 2 == 0 else "a"
+        goal = f"goal g{number} (a: S): |- f(a) = {right}.\n"
+        if length + len(goal) > size:
+            return "".join(parts)
+        parts.append(goal)
+        length += len(goal)
+        number += 1
+
+
+def many_functions(size):
+    """Declarations of functions, and one goal at the end."""
+    parts = ["sort S.\n"]
+    last = "goal g (a: S): |- a = a.\n"
+    length = len(parts[0]) + len(last)
+    number = 0
+    while True:
+        line = f"fun f{number}(S): S.\n"
+        if length + len(line) > size:
+            return "".join(parts) + last
+        parts.append(line)
+        length += len(line)
+        number += 1
+
+
+def one_comment(size):
+    """One comment that fills the file."""
+    text = "sort S. goal g (a: S): |- a = a.\n--"
+    return text + "x" * (size - len(text))
+
+
+def deep_terms(size):
+    """Goals whose terms are nested 190 deep."""
+    parts = ["sort S. fun f(S): S.\n"]
+    length = len(parts[0])
+    term = "f(" * 190 + "a" + ")" * 190
+    number = 0
+    while True:
+        goal = f"goal g{number} (a: S): |- {term} = {term}.\n"
+        if length + len(goal) > size:
+            return "".join(parts)
+        parts.append(goal)
+        length += len(goal)
+        number += 1
+
+
+def wide_goals(size):
+    """Goals of some 20,000 different nodes each."""
+    parts = ["sort S. fun f(S): S. fun p(S, S): S.\n"]
+    length = len(parts[0])
+    number = 0
+    while True:
+        names = [f"a{i}" for i in range(10_000)]
+        row = [f"f({name})" for name in names]
+        while len(row) > 1:
+            row = [f"p({a}, {b})" for a, b in zip(row[::2], row[1::2])] + row[len(row) & ~1:]
+        goal = f"goal g{number} ({' '.join(names)}: S): |- {row[0]} = {row[0]}.\n"
+        if length + len(goal) > size:
+            return "".join(parts)
+        parts.append(goal)
+        length += len(goal)
+        number += 1
+
+
+FAMILIES = [many_goals, many_functions, one_comment, deep_terms, wide_goals]
+
+
+def run(program, path):
+    """Seconds and peak memory in bytes of one run; its output goes nowhere."""
+    start = time.perf_counter()
+    child = os.fork()
+    if child == 0:
+        nowhere = os.open(os.devnull, os.O_WRONLY)
+        os.dup2(nowhere, 1)
+        os.execv(program, [program, "solve", path])
+    _, status, usage = os.wait4(child, 0)
+    seconds = time.perf_counter() - start
+    code = os.waitstatus_to_exitcode(status)
+    if code not in (0, 1):
+        sys.exit(f"{path}: status {code}")
+    return seconds, usage.ru_maxrss * 1024
+
+
+def main():
+    top = os.path.dirname(os.path.dirname(os.path.abspath(__file__)))
+    built = os.path.join(top, "crates", "grind_main", "out", "grind_main")
+    program = os.path.abspath(sys.argv[1]) if len(sys.argv) > 1 else built
+    if not os.access(program, os.X_OK):
+        sys.exit(f"{program}: not built yet; ./grind builds it")
+    print("| family | bytes | seconds | growth | memory / file |")
+    print("|---|---|---|---|---|")
+    with tempfile.TemporaryDirectory() as folder:
+        for family in FAMILIES:
+            before = None
+            for size in (LIMIT // 4, LIMIT // 2, LIMIT):
+                text = family(size)
+                path = os.path.join(folder, f"{family.__name__}.gr")
+                with open(path, "w", encoding="ascii") as file:
+                    file.write(text)
+                runs = [run(program, path) for _ in range(ROUNDS)]
+                seconds = min(seconds for seconds, _ in runs)
+                memory = max(memory for _, memory in runs)
+                growth = "" if before is None else f"{seconds / before:.2f}"
+                print(f"| {family.__name__} | {len(text)} | {seconds:.3f} | {growth} | {memory / len(text):.1f} |")
+                before = seconds
+
+
+if __name__ == "__main__":
+    main()

@@ -1,0 +1,5 @@
+pub mod BlockLemmas
+pub mod EndingLemmas
+pub mod NotesLemmas
+pub mod SolveLemmas
+pub mod WrittenLemmas

@@ -1,0 +1,29 @@
+use Rattle.std.proofs.Common.{◌≡◌, ℕ, List, ◌∙◌, subst, sym}
+use Rattle.std.proofs.lemmas.Bool.{false≢true}
+use Rattle.grind_schemes.specs.Goals.{GoalData}
+use Rattle.grind_cli.specs.Answers.{WritesReport}
+use Rattle.grind_cli.proofs.run.solve_theory.Goals as goal
+
+pub returns-in-Ok-true-clause-ends : goal.returns-in-Ok-true-clause-ends
+returns-in-Ok-true-clause-ends g c =
+    let found = c.in-Ok-true.ensures.ok in
+    let theory = c.args.theory.now in
+    let old = g.K.Sink.written c.args.out.now in
+    let new = g.K.Sink.written c.write_report.new.out in (
+      found.0,
+      found.1,
+      subst (λ (gs : List GoalData). WritesReport theory.signature theory.lemmas gs old new found.0 found.1) c.as_slice-goals.ensures.value found.2,
+      found.3.0 c.in-Ok-true.field-0-test,
+    )
+
+pub returns-in-Ok-false-clause-ends : goal.returns-in-Ok-false-clause-ends
+returns-in-Ok-false-clause-ends g c =
+    let found = c.in-Ok-false.ensures.ok in
+    let theory = c.args.theory.now in
+    let old = g.K.Sink.written c.args.out.now in
+    let new = g.K.Sink.written c.write_report.new.out in (
+      found.0,
+      found.1,
+      subst (λ (gs : List GoalData). WritesReport theory.signature theory.lemmas gs old new found.0 found.1) c.as_slice-goals.ensures.value found.2,
+      λ all. false≢true (sym c.in-Ok-false.field-0-test ∙ found.3.1 all),
+    )

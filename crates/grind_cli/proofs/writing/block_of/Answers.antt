@@ -1,0 +1,14 @@
+use Rattle.grind_cli.proofs.BlockLemmas.{printable, spells_block}
+use Rattle.grind_cli.proofs.writing.block_of.Goals as goal
+
+pub render_block-requires : goal.render_block-requires
+render_block-requires c =
+    printable c.args.signature.now c.args.lemmas.now c.args.goal.now c.in_ok-outcome.outcome c.in_ok-outcome.ensures c.requires
+
+pub returns : goal.returns
+returns c =
+    let made = c.in_ok-bytes.ensures in (
+      made.0,
+      spells_block c.args.signature.now c.args.lemmas.now c.args.goal.now c.in_ok-outcome.outcome c.is_closed-closed.result _ made.0
+          c.in_ok-outcome.ensures made.3 made.2 made.1 c.is_closed-closed.ensures,
+    )

@@ -1,0 +1,14 @@
+use Rattle.std.proofs.Common.{◌≡◌, length}
+use Rattle.grind_theory.specs.Declaring.{AreDeclared}
+use Rattle.grind_cli.proofs.WrittenLemmas.{IsOnTheWay}
+use Rattle.grind_cli.proofs.writing.write_blocks.Given as goal
+
+abbrev pub invariant-loop-goal : goal.invariant-loop-goal
+invariant-loop-goal g l = record {
+  way : IsOnTheWay l.signature l.lemmas l.goals (g.K.Sink.written l.fn.out) l.rest (g.K.Sink.written l.out) l.closed;
+  declared : AreDeclared l.signature l.rest;
+  faults : g.K.Sink.faults l.out ≡ g.K.Sink.faults l.fn.out;
+}
+
+abbrev pub decreases-loop-goal : goal.decreases-loop-goal
+decreases-loop-goal g l = length l.rest

@@ -1,0 +1,10 @@
+//! The command line of Grind: `run` goes from the words and the file to a report that is proved right.
+#![tactic(auto)]
+
+pub mod notes;
+pub mod reader;
+pub mod run;
+pub mod solve;
+pub mod status;
+pub mod words;
+pub mod writing;

@@ -1,0 +1,119 @@
+//! The top call: from the words to a report.
+ghost use Rattle.std.specs.Prelude.{◌≡◌, ◌≢◌, ◌⊎◌, ◌↔◌, ◌<◌, ◌≤◌, ◌^◌, ℕ, List, [], Some, length, map};
+ghost use Rattle.std.specs.String.{string_bytes};
+ghost use Rattle.grind_outside.specs.Outside.{CountsFault};
+ghost use Rattle.grind_cli.specs.Commands.{IsSolve};
+ghost use Rattle.grind_theory.specs.Declaring.{AreDeclared};
+ghost use Rattle.grind_cli.specs.Endings.{Ends, EndsOn, EndsOnTheory, IsAnswer, max_theory_bytes};
+ghost use Rattle.grind_cli.specs.Notes.{Notes};
+ghost use Rattle.grind_cli.specs.Statuses.{note_of};
+ghost use Rattle.grind_cli.specs.TheoryFiles.{TheoryOf};
+ghost use Rattle.grind_theory.specs.declared.theory.Theory.{Theory as ATheory};
+
+use crate::notes::tell;
+use crate::reader::{ReaderRefusal, theory_of};
+use crate::status::Status;
+use crate::words::file_of;
+use crate::writing::write_report;
+use grind_outside::{ReadRefusal, Shelf, Sink, SinkRefusal};
+use grind_theory::theory::Theory;
+use std::alloc::Global;
+use std::thread::Threads;
+
+/// How many bytes a theory file may have.
+const MAX_THEORY_BYTES: u64 = 4_194_304;
+
+/// Does what the words say, `solve FILE`: reads the theory file from the shelf, solves each of its
+/// goals and writes the report to `out`, each block as soon as its goal is solved. What is refused
+/// is said in one line on `notes`.
+pub fn run<R: Threads + Sync, H: Shelf, K: Sink, E: Sink>(
+    _rt: &R,
+    alloc: Global,
+    words: &[String],
+    shelf: &mut H,
+    out: &mut K,
+    notes: &mut E,
+) -> Status
+    // Where each status comes, and what then stands on `out`.
+    ensures ends { (name : List ℕ) → IsSolve (map string_bytes words.now) name →
+        Ends result (H.content shelf.old name) (H.faults shelf.old) (H.faults shelf.new)
+        (K.written out.old) (K.written out.new) (K.faults out.old) (K.faults out.new) }
+    ensures words { (result ≡ Status.WordsRefused) ↔ ((name : List ℕ) → ¬ IsSolve (map string_bytes words.now) name) }
+    ensures words_only { result ≡ Status.WordsRefused → K.written out.new ≡ K.written out.old }
+
+    // A file that stands on the shelf, where neither the shelf nor `out` counts a fault.
+    ensures complete { (name bytes : List ℕ) (theory : ATheory) → IsSolve (map string_bytes words.now) name →
+        H.content shelf.old name ≡ Some bytes → length bytes ≤ max_theory_bytes → TheoryOf bytes theory →
+        ¬ CountsFault (H.faults shelf.old) (H.faults shelf.new) → ¬ CountsFault (K.faults out.old) (K.faults out.new) →
+        IsAnswer result ⊎ (result ≡ Status.Memory) }
+    ensures no_theory { (name bytes : List ℕ) → IsSolve (map string_bytes words.now) name →
+        H.content shelf.old name ≡ Some bytes → length bytes ≤ max_theory_bytes → ((theory : ATheory) → ¬ TheoryOf bytes theory) →
+        ¬ CountsFault (H.faults shelf.old) (H.faults shelf.new) →
+        (result ≡ Status.TheoryRefused) ⊎ (result ≡ Status.Memory) }
+    ensures long { (name bytes : List ℕ) → IsSolve (map string_bytes words.now) name →
+        H.content shelf.old name ≡ Some bytes → max_theory_bytes < length bytes →
+        ¬ CountsFault (H.faults shelf.old) (H.faults shelf.new) →
+        (result ≡ Status.TooLong) ⊎ (result ≡ Status.Memory) }
+
+    // The counts of faults move only where the status says so.
+    ensures shelf_quiet { result ≢ Status.ReadFault → H.faults shelf.new ≡ H.faults shelf.old }
+    ensures out_quiet { result ≢ Status.WriteFault → K.faults out.new ≡ K.faults out.old }
+
+    // What stands on the notes.
+    ensures notes { (name : List ℕ) → IsSolve (map string_bytes words.now) name →
+        Notes E.written E.refuses notes.old notes.new (note_of result name) }
+    ensures usage { result ≡ Status.WordsRefused →
+        Notes E.written E.refuses notes.old notes.new (note_of Status.WordsRefused []) }
+{
+    let Some(name) = file_of(words) else {
+        tell(notes, Status::WordsRefused, b"");
+        return Status::WordsRefused;
+    };
+    let status = solve(alloc, name, shelf, out);
+    tell(notes, status, name.as_bytes());
+    status
+}
+
+/// Reads the theory file of that name, and solves it.
+fn solve<H: Shelf, K: Sink>(alloc: Global, name: &str, shelf: &mut H, out: &mut K) -> Status
+    ensures ends { Ends result (H.content shelf.old name.now) (H.faults shelf.old) (H.faults shelf.new)
+        (K.written out.old) (K.written out.new) (K.faults out.old) (K.faults out.new) }
+    ensures shelf_quiet { result ≢ Status.ReadFault → H.faults shelf.new ≡ H.faults shelf.old }
+    ensures out_quiet { result ≢ Status.WriteFault → K.faults out.new ≡ K.faults out.old }
+{
+    match shelf.read(alloc, name, MAX_THEORY_BYTES) {
+        Ok(bytes) => solve_bytes(alloc, bytes.as_slice(), out),
+        Err(ReadRefusal::Failed) => Status::ReadFault,
+        Err(ReadRefusal::TooLong { .. }) => Status::TooLong,
+        Err(ReadRefusal::Memory) => Status::Memory,
+    }
+}
+
+/// Solves the theory that the bytes are.
+fn solve_bytes<K: Sink>(alloc: Global, bytes: &[u8], out: &mut K) -> Status
+    requires { length bytes.now ≤ max_theory_bytes }
+    ensures ends { EndsOn result bytes.now (K.written out.old) (K.written out.new) (K.faults out.old) (K.faults out.new) }
+    ensures out_quiet { result ≢ Status.WriteFault → K.faults out.new ≡ K.faults out.old }
+{
+    let theory = match theory_of(alloc, bytes) {
+        Ok(theory) => theory,
+        Err(ReaderRefusal::Refused) => return Status::TheoryRefused,
+        Err(ReaderRefusal::Memory) => return Status::Memory,
+    };
+    solve_theory(alloc, &theory, out)
+}
+
+/// Solves the goals of the theory, and writes their report.
+fn solve_theory<K: Sink>(alloc: Global, theory: &Theory, out: &mut K) -> Status
+    requires { AreDeclared theory.now.signature theory.now.goals }
+    ensures ends { EndsOnTheory result theory.now (K.written out.old) (K.written out.new) (K.faults out.old) (K.faults out.new) }
+    ensures out_quiet { result ≢ Status.WriteFault → K.faults out.new ≡ K.faults out.old }
+{
+    let goals = theory.goals.as_slice();
+    match write_report(alloc, &theory.signature, &theory.lemmas, goals, out) {
+        Ok(true) => Status::AllClosed,
+        Ok(false) => Status::SomeOpen,
+        Err(SinkRefusal::Failed) => Status::WriteFault,
+        Err(SinkRefusal::Memory) => Status::Memory,
+    }
+}

@@ -1,0 +1,162 @@
+//! The report of a theory, written goal by goal.
+ghost use Rattle.std.specs.Prelude.{◌≡◌, ◌≤◌, ◌<◌, ◌^◌, ◌↔◌, ℕ, List as Sequence, [], length, IfOk, OnOk, OnErr, IsTrue};
+ghost use Rattle.std.specs.List.{AllByRecursion};
+ghost use Rattle.grind_outside.specs.Outside.{CountsFault, OnPutFailed, UnlessPutFailed, appended};
+ghost use Rattle.grind_signature.specs.Signatures.{IsDeclared};
+ghost use Rattle.grind_report.specs.Report.{Block, BlockFits, Report, header_bytes, block_bytes, end_bytes};
+ghost use Rattle.grind_cli.specs.Answers.{AnswersGoal, IsClosed, AreClosed, WritesReport, WritesPart};
+ghost use Rattle.grind_theory.specs.Declaring.{AreDeclared};
+ghost use Rattle.grind_cli.specs.Written.{WritesFront, WritesBlock, BeginsBlock, SpellsBlock, IsClosedOutcome, WritesBlocks, WritesSomeBlocks};
+
+use crate::solve::solve_goal;
+use grind_outside::{List, Memory, Sink, SinkRefusal, write_whole};
+use grind_report::report::{Outcome, end_line, header, render_block};
+use grind_schemes::{Goal, Lemmas};
+use grind_signature::signature::Signature;
+use std::alloc::Global;
+
+/// Solves the goals and writes their report, each block as soon as its goal is solved. Says whether
+/// every goal is closed.
+///
+/// # Errors
+///
+/// The refusal of `out`, or want of memory. Some first bytes of the report were then written.
+pub fn write_report<K: Sink>(
+    alloc: Global,
+    signature: &Signature,
+    lemmas: &Lemmas,
+    goals: &[Goal],
+    out: &mut K,
+) -> Result<bool, SinkRefusal>
+    requires declared { AreDeclared signature.now goals.now }
+    requires few { length goals.now < 2 ^ 32 }
+    ensures ok { IfOk result (λ closed. (bytes : Sequence ℕ) × (report : Report)
+        × WritesReport signature.now lemmas.now goals.now (K.written out.old) (K.written out.new) bytes report
+        × (IsTrue closed ↔ AreClosed report.blocks)) }
+    ensures err { OnErr result
+        (WritesPart signature.now lemmas.now goals.now (K.written out.old) (K.written out.new)) }
+
+    ensures failed { OnPutFailed result (CountsFault (K.faults out.old) (K.faults out.new)) }
+    ensures quiet { UnlessPutFailed result (K.faults out.new ≡ K.faults out.old) }
+    ensures never_falls { K.faults out.old ≤ K.faults out.new }
+{
+    if let Err(refusal) = write_header(alloc, out) {
+        return Err(refusal);
+    }
+    let closed = match write_blocks(alloc, signature, lemmas, goals, out) {
+        Ok(closed) => closed,
+        Err(refusal) => return Err(refusal),
+    };
+    if let Err(refusal) = write_end(alloc, goals.len() as u32, out) {
+        return Err(refusal);
+    }
+    Ok(closed)
+}
+
+fn write_header<K: Sink>(alloc: Global, out: &mut K) -> Result<(), SinkRefusal>
+    ensures ok { OnOk result (K.written out.new ≡ appended (K.written out.old) header_bytes) }
+    ensures err { OnErr result (WritesFront (K.written out.old) (K.written out.new) header_bytes) }
+
+    ensures failed { OnPutFailed result (CountsFault (K.faults out.old) (K.faults out.new)) }
+    ensures quiet { UnlessPutFailed result (K.faults out.new ≡ K.faults out.old) }
+    ensures never_falls { K.faults out.old ≤ K.faults out.new }
+{
+    let Ok(line) = header(alloc) else {
+        return Err(SinkRefusal::Memory);
+    };
+    write_whole(out, line.as_slice())
+}
+
+fn write_end<K: Sink>(alloc: Global, count: u32, out: &mut K) -> Result<(), SinkRefusal>
+    ensures ok { OnOk result (K.written out.new ≡ appended (K.written out.old) (end_bytes count)) }
+    ensures err { OnErr result (WritesFront (K.written out.old) (K.written out.new) (end_bytes count)) }
+
+    ensures failed { OnPutFailed result (CountsFault (K.faults out.old) (K.faults out.new)) }
+    ensures quiet { UnlessPutFailed result (K.faults out.new ≡ K.faults out.old) }
+    ensures never_falls { K.faults out.old ≤ K.faults out.new }
+{
+    let Ok(line) = end_line(alloc, count) else {
+        return Err(SinkRefusal::Memory);
+    };
+    write_whole(out, line.as_slice())
+}
+
+/// Writes a block for each goal. Says whether every goal is closed.
+fn write_blocks<K: Sink>(
+    alloc: Global,
+    signature: &Signature,
+    lemmas: &Lemmas,
+    goals: &[Goal],
+    out: &mut K,
+) -> Result<bool, SinkRefusal>
+    requires { AreDeclared signature.now goals.now }
+    ensures ok { IfOk result (λ closed. (blocks : Sequence Block)
+        × WritesBlocks signature.now lemmas.now goals.now (K.written out.old) (K.written out.new) blocks
+        × (IsTrue closed ↔ AreClosed blocks)) }
+    ensures err { OnErr result
+        (WritesSomeBlocks signature.now lemmas.now goals.now (K.written out.old) (K.written out.new)) }
+
+    ensures failed { OnPutFailed result (CountsFault (K.faults out.old) (K.faults out.new)) }
+    ensures quiet { UnlessPutFailed result (K.faults out.new ≡ K.faults out.old) }
+    ensures never_falls { K.faults out.old ≤ K.faults out.new }
+{
+    let mut rest = goals;
+    let mut closed = true;
+    while let Some((goal, tail)) = rest.split_first() {
+        match write_block(alloc, signature, lemmas, goal, out) {
+            Ok(this) => closed = closed && this,
+            Err(refusal) => return Err(refusal),
+        }
+        rest = tail;
+    }
+    Ok(closed)
+}
+
+/// Solves a goal and writes its block. Says whether it is closed.
+fn write_block<K: Sink>(
+    alloc: Global,
+    signature: &Signature,
+    lemmas: &Lemmas,
+    goal: &Goal,
+    out: &mut K,
+) -> Result<bool, SinkRefusal>
+    requires { AllByRecursion (IsDeclared signature.now goal.now.constants goal.now.terms.nodes) goal.now.terms.nodes }
+    ensures ok { IfOk result (λ closed. (block : Block)
+        × WritesBlock signature.now lemmas.now goal.now (K.written out.old) (K.written out.new) closed block) }
+    ensures err { OnErr result
+        (BeginsBlock signature.now lemmas.now goal.now (K.written out.old) (K.written out.new)) }
+
+    ensures failed { OnPutFailed result (CountsFault (K.faults out.old) (K.faults out.new)) }
+    ensures quiet { UnlessPutFailed result (K.faults out.new ≡ K.faults out.old) }
+    ensures never_falls { K.faults out.old ≤ K.faults out.new }
+{
+    let Ok((closed, bytes)) = block_of(alloc, signature, lemmas, goal) else {
+        return Err(SinkRefusal::Memory);
+    };
+    if let Err(refusal) = write_whole(out, bytes.as_slice()) {
+        return Err(refusal);
+    }
+    Ok(closed)
+}
+
+/// Solves a goal. Says whether it is closed, and gives the bytes of its block.
+fn block_of(
+    alloc: Global,
+    signature: &Signature,
+    lemmas: &Lemmas,
+    goal: &Goal,
+) -> Result<(bool, List<u8>), Memory>
+    requires { AllByRecursion (IsDeclared signature.now goal.now.constants goal.now.terms.nodes) goal.now.terms.nodes }
+    ensures { IfOk result (λ made. (block : Block) × SpellsBlock signature.now lemmas.now goal.now made.0 made.1 block) }
+{
+    let outcome = solve_goal(alloc, lemmas, goal)?;
+    let bytes = render_block(alloc, signature, goal, &outcome)?;
+    let closed = is_closed(&outcome);
+    Ok((closed, bytes))
+}
+
+fn is_closed(outcome: &Outcome) -> bool
+    ensures { IsTrue result ↔ IsClosedOutcome outcome.now }
+{
+    matches!(outcome, Outcome::Closed(_))
+}

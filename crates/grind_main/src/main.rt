@@ -1,0 +1,58 @@
+//! The program: it takes the words, and calls `run` on the files and streams of the machine.
+#![tactic(auto)]
+
+ghost use Rattle.std.specs.Prelude.{◌≡◌, ◌≢◌};
+ghost use Rattle.std.specs.declared.io.ErrorKind.{ErrorKind as Kind};
+
+use grind_cli::notes::tell;
+use grind_cli::run::run;
+use grind_cli::status::Status;
+use grind_outside::{FileShelf, StreamSink};
+use std::env;
+use std::io::{self, ErrorKind};
+use std::process::ExitCode;
+use std::rt::Env;
+
+fn main(rt: HostRuntime) -> ExitCode {
+    let mut notes = StreamSink::new(rt.stderr());
+    let status = match words_of(&rt) {
+        Ok(words) => {
+            let mut shelf = FileShelf::new(&rt);
+            let mut out = StreamSink::new(rt.stdout());
+            run(
+                &rt,
+                rt.alloc(),
+                words.as_slice(),
+                &mut shelf,
+                &mut out,
+                &mut notes,
+            )
+        }
+        Err(error) => {
+            let status = status_without_words(error.kind());
+            tell(&mut notes, status, b"");
+            status
+        }
+    };
+    ExitCode::from(status.number())
+}
+
+/// The words of the command line, without the program's name.
+fn words_of(rt: &(impl Env + AllocGlobal)) -> io::Result<Vec<String>> {
+    let mut words = Vec::new(rt.alloc());
+    for word in env::args(rt)?.skip(1) {
+        words.push(word)?;
+    }
+    Ok(words)
+}
+
+/// How a run ends whose words could not be taken: for want of memory, or where a word is no text.
+fn status_without_words(kind: ErrorKind) -> Status
+    ensures memory { kind ≡ ErrorKind.OutOfMemory → result ≡ Status.Memory }
+    ensures words { kind ≢ ErrorKind.OutOfMemory → result ≡ Status.WordsRefused }
+{
+    match kind {
+        ErrorKind::OutOfMemory => Status::Memory,
+        _ => Status::WordsRefused,
+    }
+}

@@ -1,0 +1,89 @@
+//! Files of the machine.
+ghost use Rattle.std.specs.Prelude.{◌≡◌, ◌≤◌, ◌<◌, ◌+◌, ◌^◌, ◌++◌, ℕ, List, None, IfOk, IfSome, length};
+ghost use Rattle.std.specs.Io.KnownBytes.{Consumes, IsAtEnd};
+ghost use Rattle.grind_outside.specs.Outside.{IfTooLong};
+
+use crate::list::List;
+use crate::refusal::ReadRefusal;
+use crate::shelf::Shelf;
+use std::alloc::Global;
+use std::fs;
+use std::io::Read;
+use std::rt::Files;
+
+/// How many bytes one read asks for.
+const PIECE: usize = 8192;
+
+/// The files of the machine, by their paths. It tells nothing of their bytes, and counts a fault
+/// for each error of the machine: a file that is missing, that may not be read, or is a folder.
+#[derive(Drop)]
+pub struct FileShelf<'a, R: Files> {
+    rt: &'a R,
+    faults: u64,
+}
+
+impl<'a, R: Files> FileShelf<'a, R> {
+    /// The files that this runtime reaches.
+    pub fn new(rt: &'a R) -> FileShelf<'a, R>
+        ensures { ⟦<FileShelf<'a, R> as Shelf>⟧.faults result ≡ 0 }
+    {
+        FileShelf { rt, faults: 0 }
+    }
+}
+
+impl<'a, R: Files> Shelf for FileShelf<'a, R> {
+    ghost content = { λ _ _. None };
+
+    ghost faults = { λ shelf. shelf.faults };
+
+    fn read(&mut self, alloc: Global, name: &str, limit: u64) -> Result<List<u8>, ReadRefusal> {
+        let answer = match fs::open(self.rt, name) {
+            Ok(mut file) => read_whole(&mut file, alloc, limit),
+            Err(_) => Err(ReadRefusal::Failed),
+        };
+        if let Err(ReadRefusal::Failed) = answer {
+            self.faults = self.faults.saturating_add(1);
+        }
+        answer
+    }
+}
+
+/// All bytes that the file has left, where they are at most `limit`. `Failed` is an error of a read.
+pub(crate) fn read_whole<F: Read>(
+    file: &mut F,
+    alloc: Global,
+    limit: u64,
+) -> Result<List<u8>, ReadRefusal>
+    ensures whole { IfOk result (λ bytes. IfSome (F.remaining file.old) (λ left. bytes ≡ left)) }
+    ensures within { IfOk result (λ bytes. length bytes ≤ limit) }
+    ensures too_long { IfTooLong result (λ named. (named ≡ limit)
+        × IfSome (F.remaining file.old) (λ left. limit < length left)) }
+{
+    let mut bytes = List::new(alloc);
+    while read_piece(file, &mut bytes, limit)? > 0 {}
+    Ok(bytes)
+}
+
+/// Reads once, and puts what came behind the bytes. Answers how many came, 0 at the end.
+fn read_piece<F: Read>(file: &mut F, bytes: &mut List<u8>, limit: u64) -> Result<usize, ReadRefusal>
+    requires { length bytes.old ≤ limit }
+    ensures came { IfOk result (λ n. (piece : List ℕ) × (length piece ≡ n)
+        × (bytes.new ≡ bytes.old ++ piece)
+        × Consumes (F.remaining file.old) (F.remaining file.new) piece) }
+    ensures within { IfOk result (λ n. length bytes.old + n ≤ limit) }
+    ensures end { IfOk result (λ n. n ≡ 0 → IsAtEnd (F.remaining file.new)) }
+    ensures too_long { IfTooLong result (λ named. (named ≡ limit)
+        × IfSome (F.remaining file.old) (λ left. limit < length bytes.old + length left)) }
+    ensures room { length bytes.old < 2 ^ 32 }
+{
+    let room = limit - bytes.len() as u64;
+    let mut piece = [0u8; PIECE];
+    let Ok(count) = file.read(&mut piece) else {
+        return Err(ReadRefusal::Failed);
+    };
+    if count as u64 > room {
+        return Err(ReadRefusal::TooLong { limit });
+    }
+    bytes.extend(&piece[..count])?;
+    Ok(count)
+}

@@ -1,0 +1,23 @@
+-- Which claims are well formed.
+use Rattle.std.specs.Prelude.{◌≡◌, ℕ, List, Option, Some, IsSome, map, slice_get, ⊤}
+use Rattle.std.specs.Option.{option_map}
+use Rattle.grind_term_graph.specs.declared.node.Node.{Node}
+use Rattle.grind_term_graph.specs.Terms.{prop, sort_at}
+use Rattle.grind_proof_kernel.specs.declared.claim.Claim.{Claim}
+use Rattle.grind_proof_kernel.specs.declared.claim.Claim.TheVariants.{Holds, Fails, Same, Absurd}
+use Rattle.grind_proof_kernel.specs.declared.proof.Line.{Line}
+
+-- a claim over these nodes: truth and falsity are of formulas, and equal terms are of one sort
+abbrev pub IsFormed : List Node → Claim → Type 0
+IsFormed nodes (Holds node) = sort_at nodes node ≡ Some prop
+IsFormed nodes (Fails node) = sort_at nodes node ≡ Some prop
+IsFormed nodes (Same left right) = IsSome (sort_at nodes left) × (sort_at nodes left ≡ sort_at nodes right)
+IsFormed nodes Absurd = ⊤
+
+-- what a line claims
+abbrev pub claim_at : List Line → ℕ → Option Claim
+claim_at lines number = option_map (λ (line : Line). line.claim) (slice_get lines number)
+
+-- what each of these lines claims
+abbrev pub claims_at : List Line → List ℕ → List (Option Claim)
+claims_at lines numbers = map (claim_at lines) numbers

@@ -1,0 +1,42 @@
+-- What holds of every typed line.
+use Rattle.std.specs.Prelude.{◌≡◌, ℕ, List, ◌++◌, length, slice_get}
+use Rattle.std.specs.Option.{IsSomeAnd}
+use Rattle.grind_term_graph.specs.declared.node.Node.{Node}
+use Rattle.grind_schemes.specs.Goals.{GoalData}
+use Rattle.grind_schemes.specs.declared.lemmas.Lemmas.{Lemmas}
+use Rattle.grind_proof_kernel.specs.declared.proof.Line.{Line}
+use Rattle.grind_proof_kernel.specs.declared.proof.Proof.{Proof}
+use Rattle.grind_proof_kernel.specs.declared.proof.Rule.{Rule}
+use Rattle.grind_proof_kernel.specs.declared.proof.Rule.TheVariants.{Negated, Refl, Back, Clash}
+use Rattle.grind_proof_kernel.specs.Typing.{IsTypedAs, TypedLine, appended}
+
+-- the new proof is the old one with more terms and more lines behind them
+pub record Extends (old new : Proof) : Type 0 where
+  pub nodes : (more : List Node) × (new.terms.nodes ≡ old.terms.nodes ++ more)
+  pub lines : (more : List Line) × (new.lines ≡ old.lines ++ more)
+
+-- a line stays typed where terms and lines are put behind the proof
+abbrev pub TypedLinesStay : Type 0
+TypedLinesStay =
+    (lemmas : Lemmas) (goal : GoalData) (old new : Proof) (i : ℕ) →
+    Extends old new → TypedLine lemmas goal old i → TypedLine lemmas goal new i
+
+-- a line that is typed behind the lines of a proof is typed once it stands there
+abbrev pub TypedNextLine : Type 0
+TypedNextLine =
+    (lemmas : Lemmas) (goal : GoalData) (proof : Proof) (line : Line) →
+    IsTypedAs lemmas goal proof (length proof.lines) line →
+    TypedLine lemmas goal (appended proof line) (length proof.lines)
+
+-- a line of this rule has so many premises
+abbrev pub IsPremiseCount : Rule → ℕ → Type 0
+IsPremiseCount Negated count = count ≡ 0
+IsPremiseCount Refl count = count ≡ 0
+IsPremiseCount Back count = count ≡ 1
+IsPremiseCount Clash count = count ≡ 2
+
+-- a typed line has as many premises as its rule asks for
+abbrev pub TypedLinesCount : Type 0
+TypedLinesCount =
+    (lemmas : Lemmas) (goal : GoalData) (proof : Proof) (i : ℕ) → TypedLine lemmas goal proof i →
+    IsSomeAnd (slice_get proof.lines i) (λ (line : Line). IsPremiseCount line.rule (length line.premises))

@@ -1,0 +1,5 @@
+pub mod Claims
+pub mod Rules
+pub mod Typing
+pub mod Judgement
+pub mod Laws

@@ -1,0 +1,137 @@
+-- The words of a report that fits hold no space and no line feed.
+use Rattle.std.proofs.Common.{◌≡◌, ◌≢◌, ℕ, ◌+◌, ◌<◌, ◌^◌, Bool, true, false, not, ◌&&◌, List, [], ◌∷◌, ◌++◌, length, map, All, decimal, refl, subst, arith}
+use Rattle.std.specs.Prelude.{codes, nat_eq}
+use Rattle.std.specs.List.{AllByRecursion, flat_map}
+use Rattle.std.specs.Char.{digit_value}
+use Rattle.std.specs.Str.Parse.{AllDigits}
+use Rattle.std.proofs.lemmas.Bool.{ne_eqb}
+use Rattle.std.proofs.lemmas.Fmt.{decimal_is_IsNumeral}
+use Rattle.std.proofs.lemmas.List.Elements.{recursion_from_All}
+use Rattle.grind_schemes.specs.Labels.{IsLabel}
+use Rattle.grind_proof_kernel.specs.declared.claim.Claim.{Claim}
+use Rattle.grind_proof_kernel.specs.declared.claim.Claim.TheVariants as claims
+use Rattle.grind_proof_kernel.specs.declared.proof.Line.{Line}
+use Rattle.grind_proof_kernel.specs.declared.proof.Rule.{Rule}
+use Rattle.grind_proof_kernel.specs.declared.proof.Rule.TheVariants as rules_of
+use Rattle.grind_report.specs.Report.{RawTerm, Block, Report, True, False, Const, Fun, Eq, Closed, Unexplored, term_words, rule_words, claim_words, line_words, indexed_lines, counted_lines, block_page, end_words, report_page, IsShort, TermFits, ClaimFits, LineFits, BlockFits, ReportFits}
+use Rattle.grind_report.proofs.Spelling.{IsSolid, IsSolidLine}
+
+-- ---- words that are written out
+
+abbrev is_solid : List ℕ → Bool
+is_solid [] = true
+is_solid (b ∷ word) = not (nat_eq b 32) && (not (nat_eq b 10) && is_solid word)
+
+both : (a b : Bool) → (a && b) ≡ true → (a ≡ true) × (b ≡ true)
+both true b e = (refl, e)
+both false b e = absurd cc
+
+not_true : (a : Bool) → not a ≡ true → a ≡ false
+not_true true e = absurd cc
+not_true false e = refl
+
+written : (word : List ℕ) → is_solid word ≡ true → IsSolid word
+written [] e = tt
+written (b ∷ word) e =
+    let one = both (not (nat_eq b 32)) (not (nat_eq b 10) && is_solid word) e in
+    let two = both (not (nat_eq b 10)) (is_solid word) one.1 in
+    ((not_true (nat_eq b 32) one.0, not_true (nat_eq b 10) two.0), written word two.1)
+
+-- ---- numbers and names
+
+digit-ne : (c k : ℕ) → (digit_value c < 10) → (digit_value k < 10 → ⊥) → nat_eq c k ≡ false
+digit-ne c k digit large = ne_eqb c k (λ (e : c ≡ k). large (let P : ℕ → Type 0 = λ x. digit_value x < 10 in subst P e digit))
+
+digits_solid : (ds : List ℕ) → AllDigits 10 ds → IsSolid ds
+digits_solid [] h = tt
+digits_solid (c ∷ ds) h = ((digit-ne c 32 h.0 (λ x. omega (arith, x)), digit-ne c 10 h.0 (λ x. omega (arith, x))), digits_solid ds h.1)
+
+decimal_solid : (n : ℕ) → n < 2 ^ 64 → IsSolid (decimal n)
+decimal_solid n short = digits_solid (decimal n) (decimal_is_IsNumeral n short).0.1
+
+short_solid : (n : ℕ) → IsShort n → IsSolid (decimal n)
+short_solid n short = decimal_solid n (omega arith)
+
+bytes_solid : (bytes : List ℕ) → AllByRecursion (λ byte. (byte ≢ 32) × (byte ≢ 10)) bytes → IsSolid bytes
+bytes_solid [] h = tt
+bytes_solid (b ∷ bytes) h = ((ne_eqb b 32 h.0.0, ne_eqb b 10 h.0.1), bytes_solid bytes h.1)
+
+name_solid : (name : List ℕ) → IsLabel name → IsSolid name
+name_solid name label = bytes_solid name (recursion_from_All (λ byte. (byte ≢ 32) × (byte ≢ 10)) name label.solid)
+
+numbers_solid : (ns : List ℕ) → AllByRecursion IsShort ns → AllByRecursion IsSolid (map decimal ns)
+numbers_solid [] h = tt
+numbers_solid (n ∷ ns) h = (short_solid n h.0, numbers_solid ns h.1)
+
+all_both : {A : Type 0} (P : A → Type 0) (xs ys : List A) → AllByRecursion P xs → AllByRecursion P ys → AllByRecursion P (xs ++ ys)
+all_both P [] ys hx hy = hy
+all_both P (x ∷ xs) ys hx hy = (hx.0, all_both P xs ys hx.1 hy)
+
+-- ---- lines
+
+term_solid : (t : RawTerm) → TermFits t → AllByRecursion IsSolid (term_words t)
+term_solid True fits = (written (codes "true") refl, tt)
+term_solid False fits = (written (codes "false") refl, tt)
+term_solid (Const name) fits = (written (codes "const") refl, (name_solid name fits, tt))
+term_solid (Fun name args) fits =
+    (written (codes "fun") refl, (name_solid name fits.0, numbers_solid args (recursion_from_All IsShort args fits.1)))
+term_solid (Eq a b) fits = (written (codes "eq") refl, (short_solid a fits.0, (short_solid b fits.1, tt)))
+
+rule_solid : (rule : Rule) → AllByRecursion IsSolid (rule_words rule)
+rule_solid rules_of.Negated = (written (codes "negated") refl, tt)
+rule_solid rules_of.Refl = (written (codes "refl") refl, tt)
+rule_solid rules_of.Back = (written (codes "back") refl, tt)
+rule_solid rules_of.Clash = (written (codes "clash") refl, tt)
+
+claim_solid : (claim : Claim) → ClaimFits claim → AllByRecursion IsSolid (claim_words claim)
+claim_solid (claims.Holds n) fits = (written (codes "holds") refl, (short_solid n fits, tt))
+claim_solid (claims.Fails n) fits = (written (codes "fails") refl, (short_solid n fits, tt))
+claim_solid (claims.Same a b) fits = (written (codes "same") refl, (short_solid a fits.0, (short_solid b fits.1, tt)))
+claim_solid claims.Absurd fits = (written (codes "absurd") refl, tt)
+
+line_solid : (line : Line) → LineFits line → AllByRecursion IsSolid (line_words line)
+line_solid line fits = (
+  short_solid line.branch fits.branch,
+  all_both IsSolid (rule_words line.rule) (map decimal line.premises ++ codes ":" ∷ claim_words line.claim) (rule_solid line.rule)
+      (all_both IsSolid (map decimal line.premises) (codes ":" ∷ claim_words line.claim)
+      (numbers_solid line.premises (recursion_from_All IsShort line.premises fits.premises))
+      (written (codes ":") refl, claim_solid line.claim fits.claim)),
+)
+
+indexed_solid : {A : Type 0} (words : A → List (List ℕ)) (Fits : A → Type 0) (solid : (x : A) → Fits x → AllByRecursion IsSolid (words x))
+    (index : ℕ) (items : List A) → index + length items < 2 ^ 33 → AllByRecursion Fits items → AllByRecursion IsSolidLine (indexed_lines words index items)
+indexed_solid words Fits solid index [] low fits = tt
+indexed_solid words Fits solid index (x ∷ items) low fits =
+    let next : index + 1 + length items < 2 ^ 33 = omega arith in
+    ((decimal_solid index (omega arith), solid x fits.0), indexed_solid words Fits solid (index + 1) items next fits.1)
+
+counted_solid : {A : Type 0} (title : List ℕ) (words : A → List (List ℕ)) (Fits : A → Type 0) (solid : (x : A) → Fits x → AllByRecursion IsSolid (words x))
+    (items : List A) → IsSolid title → IsShort (length items) → All Fits items → AllByRecursion IsSolidLine (counted_lines title words items)
+counted_solid title words Fits solid items named low fits =
+    ((named, (short_solid (length items) low, tt)), indexed_solid words Fits solid 0 items (omega arith) (recursion_from_All Fits items fits))
+
+-- ---- pages
+
+block_solid : (block : Block) → BlockFits block → AllByRecursion IsSolidLine (block_page block)
+block_solid (Closed name proof) fits = (
+  (written (codes "goal") refl, (name_solid name fits.0, (written (codes "closed") refl, tt))),
+  all_both IsSolidLine (counted_lines (codes "terms") term_words proof.terms) ((codes "branches" ∷ decimal 0 ∷ []) ∷ counted_lines (codes "lines") line_words proof.lines)
+      (counted_solid (codes "terms") term_words TermFits term_solid proof.terms (written (codes "terms") refl) fits.1.term_count fits.1.terms) (
+        (written (codes "branches") refl, (decimal_solid 0 (omega arith), tt)),
+        counted_solid (codes "lines") line_words LineFits line_solid proof.lines (written (codes "lines") refl) fits.1.line_count fits.1.lines,
+      ),
+)
+block_solid (Unexplored name) fits =
+    ((written (codes "goal") refl, (name_solid name fits, (written (codes "open") refl, (written (codes "unexplored") refl, tt)))), tt)
+
+blocks_solid : (blocks : List Block) → AllByRecursion BlockFits blocks → AllByRecursion IsSolidLine (flat_map block_page blocks)
+blocks_solid [] fits = tt
+blocks_solid (block ∷ blocks) fits = all_both IsSolidLine (block_page block) (flat_map block_page blocks) (block_solid block fits.0) (blocks_solid blocks fits.1)
+
+pub report_solid : (report : Report) → ReportFits report → AllByRecursion IsSolidLine (report_page report)
+report_solid report fits = (
+  (written (codes "grind") refl, (written (codes "report") refl, (written (codes "1") refl, tt))),
+  all_both IsSolidLine (flat_map block_page report.blocks) (end_words (length report.blocks) ∷ [])
+      (blocks_solid report.blocks (recursion_from_All BlockFits report.blocks fits.blocks))
+      ((written (codes "end") refl, (short_solid (length report.blocks) fits.block_count, tt)), tt),
+)

@@ -1,0 +1,4 @@
+pub mod Blocks
+pub mod Naming
+pub mod Report
+pub mod ReportCases

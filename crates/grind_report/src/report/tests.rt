@@ -1,0 +1,102 @@
+//! The printed text of the parts of a report.
+ghost use Rattle.std.specs.Prelude.{◌≡◌, length};
+ghost use Rattle.grind_report.specs.Report.{TakesPremises};
+
+use crate::report::{self, Outcome, lines};
+use grind_outside::{List, Memory};
+use grind_proof_kernel::{Claim, Line, Rule};
+use grind_schemes::Goal;
+use grind_signature::signature::Signature;
+use grind_term_graph::{NodeId, TermTable};
+use std::alloc::Global;
+use std::test::Fail;
+
+// the text of a line of a proof
+fn line_text(
+    alloc: Global,
+    index: u32,
+    rule: Rule,
+    premises: &[u32],
+    claim: Claim,
+) -> Result<List<u8>, Memory>
+    requires { TakesPremises rule (length premises.now) }
+{
+    let mut list = List::new(alloc);
+    list.extend(premises)?;
+    let line = Line {
+        branch: 0,
+        rule,
+        premises: list,
+        claim,
+    };
+    let mut out = List::new(alloc);
+    lines::put_line(&mut out, index, &line)?;
+    Ok(out)
+}
+
+// a goal without constants, of this name of one letter
+fn small_goal(alloc: Global, letter: u8) -> Result<Goal, Fail>
+    requires { letter ≡ 116 }
+{
+    let mut name = List::new(alloc);
+    name.push(letter)?;
+    let terms = TermTable::new(alloc, 65536)?;
+    let constants = List::new(alloc);
+    let hyps = List::new(alloc);
+    let show = NodeId::TRUE;
+    Ok(Goal {
+        name,
+        constants,
+        terms,
+        hyps,
+        show,
+    })
+}
+
+fn same(left: u32, right: u32) -> Claim {
+    Claim::Same(NodeId::new(left), NodeId::new(right))
+}
+
+#[test]
+fn prints_the_lines_of_a_proof(rt: HostRuntime) -> Result<(), Fail> {
+    let alloc = rt.alloc();
+    let negated = line_text(alloc, 0, Rule::Negated, &[], Claim::Fails(NodeId::new(4)))?;
+    assert_eq!(rt; negated.as_slice(), b"0 0 negated : fails 4\n".as_slice());
+    let refl = line_text(alloc, 1, Rule::Refl, &[], same(3, 3))?;
+    assert_eq!(rt; refl.as_slice(), b"1 0 refl : same 3 3\n".as_slice());
+    let back = line_text(alloc, 2, Rule::Back, &[1], Claim::Holds(NodeId::new(4)))?;
+    assert_eq!(rt; back.as_slice(), b"2 0 back 1 : holds 4\n".as_slice());
+    let clash = line_text(alloc, 3, Rule::Clash, &[2, 0], Claim::Absurd)?;
+    assert_eq!(rt; clash.as_slice(), b"3 0 clash 2 0 : absurd\n".as_slice());
+    Ok(())
+}
+
+#[test]
+fn prints_a_goal_that_stays_open(rt: HostRuntime) -> Result<(), Fail> {
+    let alloc = rt.alloc();
+    let signature = Signature::new(alloc)?;
+    let goal = small_goal(alloc, b't')?;
+    let block = report::render_block(alloc, &signature, &goal, &Outcome::Unexplored)?;
+    assert_eq!(rt; block.as_slice(), b"goal t open unexplored\n".as_slice());
+    Ok(())
+}
+
+#[test]
+fn prints_header_and_end(rt: HostRuntime) -> Result<(), Fail> {
+    let alloc = rt.alloc();
+    report::one_report();
+    report::blocks_make_a_report();
+    assert_eq!(rt;
+        report::header(alloc)?.as_slice(),
+        b"grind report 1\n".as_slice()
+    );
+    assert_eq!(rt;
+        report::end_line(alloc, 0)?.as_slice(),
+        b"end 0\n".as_slice()
+    );
+    assert_eq!(rt;
+        report::end_line(alloc, 4294967295)?.as_slice(),
+        b"end 4294967295\n".as_slice()
+    );
+    Ok(())
+}

@@ -1,0 +1,6 @@
+pub mod Labels
+pub mod Goals
+pub mod Limits
+pub mod Schemes
+pub mod Theorems
+pub mod Laws

@@ -1,0 +1,16 @@
+//! What a theory gives to prove and to prove with: goals, theorems with their patterns, and the limits of a
+//! search. Each type keeps in its invariant what its readers rely on, so that no call above checks it again.
+#![tactic(auto)]
+
+pub mod goal;
+pub mod laws;
+pub mod lemmas;
+pub mod limits;
+pub mod scheme;
+pub mod theorem;
+
+pub use goal::{Constant, Goal};
+pub use lemmas::Lemmas;
+pub use limits::Limits;
+pub use scheme::Scheme;
+pub use theorem::Theorem;

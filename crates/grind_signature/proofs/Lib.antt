@@ -1,0 +1,4 @@
+pub mod FewArguments
+pub mod FunctionLists
+pub mod NameLists
+pub mod SignatureLaws

@@ -1,0 +1,6 @@
+//! The names that a theory declares: sorts, functions and labels, in one space of names.
+#![tactic(auto)]
+
+pub mod fun_table;
+pub mod name_table;
+pub mod signature;

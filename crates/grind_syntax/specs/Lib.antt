@@ -1,0 +1,5 @@
+pub mod Grammar
+pub mod Kept
+pub mod Names
+pub mod Reading
+pub mod Syntax

@@ -1,0 +1,34 @@
+//! A node of a term table.
+ghost use Rattle.std.specs.Prelude.{◌≡◌, ◌≤◌, length, IsOk, IfOk};
+
+use crate::args::Args;
+use crate::head::Head;
+use crate::ids::SortId;
+use grind_outside::Memory;
+use std::alloc::Global;
+
+/// A term: its head, its sort, and its arguments as the numbers of nodes.
+#[derive(Drop, Debug, PartialEq, Eq, Hash)]
+pub struct Node {
+    /// The outermost symbol.
+    pub head: Head,
+    /// The sort of the term.
+    pub sort: SortId,
+    /// The arguments, in order.
+    pub args: Args,
+}
+
+impl Node {
+    /// The same node once more. A node of at most four arguments is never refused.
+    pub fn copy(&self, alloc: Global) -> Result<Node, Memory>
+        ensures ok { IfOk result (λ node. node ≡ self.now) }
+        ensures succeeds { length self.now.args ≤ 4 → IsOk result }
+    {
+        let args = self.args.copy(alloc)?;
+        Ok(Node {
+            head: self.head,
+            sort: self.sort,
+            args,
+        })
+    }
+}

@@ -1,0 +1,15 @@
+pub mod Applying
+pub mod BinderLists
+pub mod Declared
+pub mod Elaboration
+pub mod Evaluation
+pub mod FormulaLaws
+pub mod FormulaLists
+pub mod Givens
+pub mod GoalLaws
+pub mod Keeping
+pub mod Labelled
+pub mod Shapes
+pub mod SortLists
+pub mod Taking
+pub mod Underway

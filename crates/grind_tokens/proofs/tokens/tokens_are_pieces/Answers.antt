@@ -1,0 +1,5 @@
+use Rattle.grind_tokens.proofs.Readings.{tokens_are_pieces}
+use Rattle.grind_tokens.proofs.tokens.tokens_are_pieces.Goals as goal
+
+pub returns : goal.returns
+returns c = tokens_are_pieces
