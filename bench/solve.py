@@ -17,34 +17,27 @@ LIMIT = 4_194_304
 ROUNDS = 3
 
 
-def many_goals(size):
-    """Small goals, every second of them closed."""
-    parts = ["sort S. fun f(S): S.\n"]
-    length = len(parts[0])
-    number = 0
+def filled(size, first, line_of, last=""):
+    """A file of at most `size` bytes: the first line, then lines by their numbers, then the last."""
+    parts = [first]
+    length = len(first) + len(last)
     while True:
-        right = "f(a)" if number % 2 == 0 else "a"
-        goal = f"goal g{number} (a: S): |- f(a) = {right}.\n"
-        if length + len(goal) > size:
-            return "".join(parts)
-        parts.append(goal)
-        length += len(goal)
-        number += 1
-
-
-def many_functions(size):
-    """Declarations of functions, and one goal at the end."""
-    parts = ["sort S.\n"]
-    last = "goal g (a: S): |- a = a.\n"
-    length = len(parts[0]) + len(last)
-    number = 0
-    while True:
-        line = f"fun f{number}(S): S.\n"
+        line = line_of(len(parts) - 1)
         if length + len(line) > size:
             return "".join(parts) + last
         parts.append(line)
         length += len(line)
-        number += 1
+
+
+def many_goals(size):
+    """Small goals, every second of them closed."""
+    sides = ["f(a)", "a"]
+    return filled(size, "sort S. fun f(S): S.\n", lambda i: f"goal g{i} (a: S): |- f(a) = {sides[i % 2]}.\n")
+
+
+def many_functions(size):
+    """Declarations of functions, and one goal at the end."""
+    return filled(size, "sort S.\n", lambda i: f"fun f{i}(S): S.\n", "goal g (a: S): |- a = a.\n")
 
 
 def one_comment(size):
@@ -55,35 +48,19 @@ def one_comment(size):
 
 def deep_terms(size):
     """Goals whose terms are nested 190 deep."""
-    parts = ["sort S. fun f(S): S.\n"]
-    length = len(parts[0])
     term = "f(" * 190 + "a" + ")" * 190
-    number = 0
-    while True:
-        goal = f"goal g{number} (a: S): |- {term} = {term}.\n"
-        if length + len(goal) > size:
-            return "".join(parts)
-        parts.append(goal)
-        length += len(goal)
-        number += 1
+    return filled(size, "sort S. fun f(S): S.\n", lambda i: f"goal g{i} (a: S): |- {term} = {term}.\n")
 
 
 def wide_goals(size):
     """Goals of some 20,000 different nodes each."""
-    parts = ["sort S. fun f(S): S. fun p(S, S): S.\n"]
-    length = len(parts[0])
-    number = 0
-    while True:
-        names = [f"a{i}" for i in range(10_000)]
-        row = [f"f({name})" for name in names]
-        while len(row) > 1:
-            row = [f"p({a}, {b})" for a, b in zip(row[::2], row[1::2])] + row[len(row) & ~1:]
-        goal = f"goal g{number} ({' '.join(names)}: S): |- {row[0]} = {row[0]}.\n"
-        if length + len(goal) > size:
-            return "".join(parts)
-        parts.append(goal)
-        length += len(goal)
-        number += 1
+    names = [f"a{i}" for i in range(10_000)]
+    row = [f"f({name})" for name in names]
+    while len(row) > 1:
+        row = [f"p({a}, {b})" for a, b in zip(row[::2], row[1::2])] + row[len(row) & ~1:]
+    binders = " ".join(names)
+    first = "sort S. fun f(S): S. fun p(S, S): S.\n"
+    return filled(size, first, lambda i: f"goal g{i} ({binders}: S): |- {row[0]} = {row[0]}.\n")
 
 
 FAMILIES = [many_goals, many_functions, one_comment, deep_terms, wide_goals]
