@@ -1,21 +1,23 @@
 -- What holds of every typed line.
-use Rattle.std.specs.Prelude.{◌≡◌, ℕ, List, ◌++◌, length, slice_get}
+use Rattle.std.specs.Prelude.{◌≡◌, ℕ, ◌<◌, ◌⊎◌, List, ◌++◌, length, slice_get}
 use Rattle.std.specs.Option.{IsSomeAnd}
 use Rattle.grind_term_graph.specs.declared.node.Node.{Node}
 use Rattle.grind_schemes.specs.Goals.{GoalData}
 use Rattle.grind_schemes.specs.declared.lemmas.Lemmas.{Lemmas}
+use Rattle.grind_proof_kernel.specs.declared.proof.Branch.{Branch}
 use Rattle.grind_proof_kernel.specs.declared.proof.Line.{Line}
 use Rattle.grind_proof_kernel.specs.declared.proof.Proof.{Proof}
 use Rattle.grind_proof_kernel.specs.declared.proof.Rule.{Rule}
-use Rattle.grind_proof_kernel.specs.declared.proof.Rule.TheVariants.{Negated, Refl, Back, Clash}
+use Rattle.grind_proof_kernel.specs.declared.proof.Rule.TheVariants as rules
 use Rattle.grind_proof_kernel.specs.Typing.{IsTypedAs, TypedLine, appended}
 
--- the new proof is the old one with more terms and more lines behind them
+-- the new proof is the old one with more terms, more branches and more lines behind them
 pub record Extends (old new : Proof) : Type 0 where
   pub nodes : (more : List Node) × (new.terms.nodes ≡ old.terms.nodes ++ more)
+  pub branches : (more : List Branch) × (new.branches ≡ old.branches ++ more)
   pub lines : (more : List Line) × (new.lines ≡ old.lines ++ more)
 
--- a line stays typed where terms and lines are put behind the proof
+-- a line stays typed where terms, branches and lines are put behind the proof
 abbrev pub TypedLinesStay : Type 0
 TypedLinesStay =
     (lemmas : Lemmas) (goal : GoalData) (old new : Proof) (i : ℕ) →
@@ -28,12 +30,22 @@ TypedNextLine =
     IsTypedAs lemmas goal proof (length proof.lines) line →
     TypedLine lemmas goal (appended proof line) (length proof.lines)
 
--- a line of this rule has so many premises
+-- a line of this rule has so many premises. The line itself says how many those of `cong` and `table` are
 abbrev pub IsPremiseCount : Rule → ℕ → Type 0
-IsPremiseCount Negated count = count ≡ 0
-IsPremiseCount Refl count = count ≡ 0
-IsPremiseCount Back count = count ≡ 1
-IsPremiseCount Clash count = count ≡ 2
+IsPremiseCount (rules.Hyp i) count = count ≡ 0
+IsPremiseCount rules.Negated count = count ≡ 0
+IsPremiseCount rules.Branch count = count ≡ 0
+IsPremiseCount rules.Refl count = count ≡ 0
+IsPremiseCount rules.Sym count = count ≡ 1
+IsPremiseCount rules.Trans count = count ≡ 2
+IsPremiseCount rules.Cong count = 0 < count
+IsPremiseCount rules.Eq count = count ≡ 1
+IsPremiseCount rules.Back count = count ≡ 1
+IsPremiseCount rules.Truth count = count ≡ 1
+IsPremiseCount rules.Untruth count = count ≡ 1
+IsPremiseCount (rules.Table free) count = Unit {0}
+IsPremiseCount rules.Apart count = count ≡ 3
+IsPremiseCount rules.Clash count = (count ≡ 1) ⊎ (count ≡ 2)
 
 -- a typed line has as many premises as its rule asks for
 abbrev pub TypedLinesCount : Type 0

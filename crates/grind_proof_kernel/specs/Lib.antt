@@ -1,4 +1,5 @@
 pub mod Claims
+pub mod Tables
 pub mod Rules
 pub mod Typing
 pub mod Judgement

@@ -1,40 +1,145 @@
--- What each rule lets a line claim, from the claims of its premises.
-use Rattle.std.specs.Prelude.{◌≡◌, ℕ, List, [], ◌∷◌, ◌⊎◌, Option, Some, slice_get}
+-- What each rule lets a line claim, from the claims of its premises. A rule has exactly the premises that it names,
+-- in this order; only those of `clash` may be exchanged. Nothing here speaks of where a premise stands.
+use Rattle.std.specs.Prelude.{◌≡◌, ◌≢◌, ℕ, ◌+◌, List, [], ◌∷◌, ◌⊎◌, Option, Some, slice_get, ℤ}
 use Rattle.std.specs.Option.{IsSomeAnd}
 use Rattle.grind_term_graph.specs.declared.head.Head.TheVariants as head
 use Rattle.grind_term_graph.specs.declared.node.Node.{Node}
 use Rattle.grind_schemes.specs.Goals.{GoalData}
 use Rattle.grind_proof_kernel.specs.declared.claim.Claim.{Claim}
-use Rattle.grind_proof_kernel.specs.declared.claim.Claim.TheVariants.{Holds, Fails, Same, Absurd}
+use Rattle.grind_proof_kernel.specs.declared.claim.Claim.TheVariants.{Holds, Fails, Same, Differ, Absurd}
 use Rattle.grind_proof_kernel.specs.declared.proof.Rule.{Rule}
-use Rattle.grind_proof_kernel.specs.declared.proof.Rule.TheVariants.{Negated, Refl, Back, Clash}
+use Rattle.grind_proof_kernel.specs.declared.proof.Rule.TheVariants as rules
+use Rattle.grind_proof_kernel.specs.Tables.{IsTable}
+
+-- the number of the node `True`, and of `False`, in every table of terms
+abbrev pub true_node : ℕ
+true_node = 0
+
+abbrev pub false_node : ℕ
+false_node = 1
 
 -- the node is the equation of these two, in this order
 abbrev pub IsEquation : List Node → ℕ → ℕ → ℕ → Type 0
 IsEquation nodes node left right =
     IsSomeAnd (slice_get nodes node) (λ (it : Node). (it.head ≡ head.Eq) × (it.args ≡ left ∷ right ∷ []))
 
+-- the node is an equation of the two, in either order
+abbrev pub IsEquationOf : List Node → ℕ → ℕ → ℕ → Type 0
+IsEquationOf nodes node a b = IsEquation nodes node a b ⊎ IsEquation nodes node b a
+
+-- the node is that number
+abbrev pub IsNumber : List Node → ℕ → ℤ → Type 0
+IsNumber nodes node number = IsSomeAnd (slice_get nodes node) (λ (it : Node). it.head ≡ head.Int number)
+
+-- hyp: from nothing, hypothesis i of the goal holds, counted from 1
+abbrev pub IsHyp : GoalData → ℕ → List (Option Claim) → Claim → Type 0
+IsHyp goal i premises claim = (k : ℕ) × (n : ℕ)
+    × (i ≡ k + 1) × (slice_get goal.hyps k ≡ Some n) × (premises ≡ []) × (claim ≡ Holds n)
+
 -- negated: from nothing, the conclusion of the goal fails
 abbrev pub IsNegated : GoalData → List (Option Claim) → Claim → Type 0
 IsNegated goal premises claim = (premises ≡ []) × (claim ≡ Fails goal.show)
+
+-- branch: from nothing, what the branch assumes
+abbrev pub IsAssumed : Option Claim → List (Option Claim) → Claim → Type 0
+IsAssumed literal premises claim = (premises ≡ []) × (literal ≡ Some claim)
 
 -- refl: from nothing, a term equals itself
 abbrev pub IsRefl : List (Option Claim) → Claim → Type 0
 IsRefl premises claim = (a : ℕ) × (premises ≡ []) × (claim ≡ Same a a)
 
--- back: from two equal terms, an equation of the two holds
+-- sym: an equality turned round
+abbrev pub IsSym : List (Option Claim) → Claim → Type 0
+IsSym premises claim = (a : ℕ) × (b : ℕ) × (premises ≡ Some (Same a b) ∷ []) × (claim ≡ Same b a)
+
+-- trans: two equalities, where the first ends with what the second begins with
+abbrev pub IsTrans : List (Option Claim) → Claim → Type 0
+IsTrans premises claim = (a : ℕ) × (b : ℕ) × (c : ℕ)
+    × (premises ≡ Some (Same a b) ∷ Some (Same b c) ∷ []) × (claim ≡ Same a c)
+
+-- the premises say that these are equal to those, one by one
+abbrev pub SayEqual : List ℕ → List ℕ → List (Option Claim) → Type 0
+SayEqual [] [] [] = Unit {0}
+SayEqual (a ∷ xs) (b ∷ ys) (p ∷ ps) = (p ≡ Some (Same a b)) × SayEqual xs ys ps
+SayEqual [] [] (p ∷ ps) = ⊥
+SayEqual [] (b ∷ ys) ps = ⊥
+SayEqual (a ∷ xs) [] ps = ⊥
+SayEqual (a ∷ xs) (b ∷ ys) [] = ⊥
+
+-- cong: two terms of one head and one sort, whose arguments, at least one, are equal one by one
+abbrev pub IsCong : List Node → List (Option Claim) → Claim → Type 0
+IsCong nodes premises claim = (a : ℕ) × (b : ℕ) × (one : Node) × (other : Node)
+    × (claim ≡ Same a b) × (slice_get nodes a ≡ Some one) × (slice_get nodes b ≡ Some other)
+    × (one.head ≡ other.head) × (one.sort ≡ other.sort) × (premises ≢ []) × SayEqual one.args other.args premises
+
+-- eq: the sides of an equation that holds are equal, and of one that fails different
+abbrev pub IsEq : List Node → List (Option Claim) → Claim → Type 0
+IsEq nodes premises claim = (n : ℕ) × (a : ℕ) × (b : ℕ) × IsEquation nodes n a b
+    × (((premises ≡ Some (Holds n) ∷ []) × (claim ≡ Same a b)) ⊎ ((premises ≡ Some (Fails n) ∷ []) × (claim ≡ Differ a b)))
+
+-- back: an equation of two equal terms holds, and of two different ones fails
 abbrev pub IsBack : List Node → List (Option Claim) → Claim → Type 0
-IsBack nodes premises claim = (a : ℕ) × (b : ℕ) × (n : ℕ)
-    × (premises ≡ Some (Same a b) ∷ []) × (claim ≡ Holds n) × (IsEquation nodes n a b ⊎ IsEquation nodes n b a)
+IsBack nodes premises claim = (a : ℕ) × (b : ℕ) × (n : ℕ) × IsEquationOf nodes n a b
+    × (((premises ≡ Some (Same a b) ∷ []) × (claim ≡ Holds n)) ⊎ ((premises ≡ Some (Differ a b) ∷ []) × (claim ≡ Fails n)))
 
--- clash: a formula that holds and fails is absurd
-abbrev pub IsClash : List (Option Claim) → Claim → Type 0
-IsClash premises claim = (claim ≡ Absurd) × (n : ℕ)
-    × ((premises ≡ Some (Holds n) ∷ Some (Fails n) ∷ []) ⊎ (premises ≡ Some (Fails n) ∷ Some (Holds n) ∷ []))
+-- truth: a formula that holds equals `True`, and one that fails `False`
+abbrev pub IsTruth : List (Option Claim) → Claim → Type 0
+IsTruth premises claim = (n : ℕ)
+    × (((premises ≡ Some (Holds n) ∷ []) × (claim ≡ Same n true_node))
+    ⊎ ((premises ≡ Some (Fails n) ∷ []) × (claim ≡ Same n false_node)))
 
--- the rule lets a line with premises of these claims claim this
-abbrev pub Says : GoalData → List Node → Rule → List (Option Claim) → Claim → Type 0
-Says goal nodes Negated premises claim = IsNegated goal premises claim
-Says goal nodes Refl premises claim = IsRefl premises claim
-Says goal nodes Back premises claim = IsBack nodes premises claim
-Says goal nodes Clash premises claim = IsClash premises claim
+-- untruth: what equals `True` holds, and what equals `False` fails
+abbrev pub IsUntruth : List (Option Claim) → Claim → Type 0
+IsUntruth premises claim = (n : ℕ)
+    × (((premises ≡ Some (Same n true_node) ∷ []) × (claim ≡ Holds n))
+    ⊎ ((premises ≡ Some (Same n false_node) ∷ []) × (claim ≡ Fails n)))
+
+-- apart: what equals one of two different terms differs from what equals the other
+abbrev pub IsApart : List (Option Claim) → Claim → Type 0
+IsApart premises claim = (a : ℕ) × (b : ℕ) × (c : ℕ) × (d : ℕ)
+    × (premises ≡ Some (Differ c d) ∷ Some (Same a c) ∷ Some (Same b d) ∷ [])
+    × ((claim ≡ Differ a b) ⊎ (claim ≡ Differ b a))
+
+-- a formula that holds, and that fails
+abbrev pub AreOpposed : Option Claim → Option Claim → Type 0
+AreOpposed one other = (n : ℕ) × (one ≡ Some (Holds n)) × (other ≡ Some (Fails n))
+
+-- two terms that are equal, and different
+abbrev pub AreSplit : Option Claim → Option Claim → Type 0
+AreSplit one other = (a : ℕ) × (b : ℕ) × (one ≡ Some (Same a b)) × ((other ≡ Some (Differ a b)) ⊎ (other ≡ Some (Differ b a)))
+
+-- `True` and `False`, in either order
+abbrev pub AreBothTruths : ℕ → ℕ → Type 0
+AreBothTruths a b = ((a ≡ true_node) × (b ≡ false_node)) ⊎ ((a ≡ false_node) × (b ≡ true_node))
+
+-- two different numbers
+abbrev pub AreTwoNumbers : List Node → ℕ → ℕ → Type 0
+AreTwoNumbers nodes a b = (j : ℤ) × (k : ℤ) × IsNumber nodes a j × IsNumber nodes b k × (j ≢ k)
+
+-- `True` and `False`, or two different numbers, that are equal
+abbrev pub IsImpossible : List Node → Option Claim → Type 0
+IsImpossible nodes one = (a : ℕ) × (b : ℕ) × (one ≡ Some (Same a b)) × (AreBothTruths a b ⊎ AreTwoNumbers nodes a b)
+
+-- clash: claims that contradict each other, in either order, or a claim that cannot be
+abbrev pub IsClash : List Node → List (Option Claim) → Claim → Type 0
+IsClash nodes premises claim = (claim ≡ Absurd)
+    × (((one : Option Claim) × (other : Option Claim)
+        × ((premises ≡ one ∷ other ∷ []) ⊎ (premises ≡ other ∷ one ∷ [])) × (AreOpposed one other ⊎ AreSplit one other))
+    ⊎ ((one : Option Claim) × (premises ≡ one ∷ []) × IsImpossible nodes one))
+
+-- the rule lets a line claim this, in a branch that assumes the literal, with premises of these claims
+abbrev pub Says : GoalData → List Node → Option Claim → Rule → List (Option Claim) → Claim → Type 0
+Says goal nodes literal (rules.Hyp i) premises claim = IsHyp goal i premises claim
+Says goal nodes literal rules.Negated premises claim = IsNegated goal premises claim
+Says goal nodes literal rules.Branch premises claim = IsAssumed literal premises claim
+Says goal nodes literal rules.Refl premises claim = IsRefl premises claim
+Says goal nodes literal rules.Sym premises claim = IsSym premises claim
+Says goal nodes literal rules.Trans premises claim = IsTrans premises claim
+Says goal nodes literal rules.Cong premises claim = IsCong nodes premises claim
+Says goal nodes literal rules.Eq premises claim = IsEq nodes premises claim
+Says goal nodes literal rules.Back premises claim = IsBack nodes premises claim
+Says goal nodes literal rules.Truth premises claim = IsTruth premises claim
+Says goal nodes literal rules.Untruth premises claim = IsUntruth premises claim
+Says goal nodes literal (rules.Table free) premises claim = IsTable nodes free premises claim
+Says goal nodes literal rules.Apart premises claim = IsApart premises claim
+Says goal nodes literal rules.Clash premises claim = IsClash nodes premises claim

@@ -14,6 +14,8 @@ pub enum Claim {
     Fails(NodeId),
     /// The two terms are equal.
     Same(NodeId, NodeId),
+    /// The two terms are different.
+    Differ(NodeId, NodeId),
     /// A contradiction.
     Absurd,
 }
@@ -26,6 +28,7 @@ pub fn is_formed(terms: &TermTable, claim: &Claim) -> bool
         Claim::Holds(node) => is_formula(terms, *node),
         Claim::Fails(node) => is_formula(terms, *node),
         Claim::Same(left, right) => are_of_one_sort(terms, *left, *right),
+        Claim::Differ(left, right) => are_of_one_sort(terms, *left, *right),
         Claim::Absurd => true,
     }
 }

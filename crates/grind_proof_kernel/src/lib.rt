@@ -4,10 +4,8 @@
 
 pub mod checker;
 pub mod claim;
-pub mod laws;
 pub mod proof;
-pub mod rules;
 
 pub use checker::{Verdict, check, check_line, derive};
 pub use claim::Claim;
-pub use proof::{Line, Proof, Rule};
+pub use proof::{Branch, Line, Proof, Rule};

@@ -1,18 +1,38 @@
-//! Proofs and their lines.
+//! Proofs: their lines and their branches.
 use crate::claim::Claim;
 use grind_outside::List;
-use grind_term_graph::TermTable;
+use grind_term_graph::{NodeId, TermTable};
 
 /// How a line follows from its premises.
 #[derive(Drop, Debug, PartialEq, Eq)]
 pub enum Rule {
+    /// A hypothesis of the goal holds. They are counted from 1.
+    Hyp(u32),
     /// The conclusion of the goal fails, which a proof by contradiction assumes.
     Negated,
+    /// The literal of the line's branch.
+    Branch,
     /// A term equals itself.
     Refl,
-    /// Two equal terms make their equation hold.
+    /// An equality is turned round.
+    Sym,
+    /// Two equalities, one behind the other, make one.
+    Trans,
+    /// Equal arguments of one head give equal terms.
+    Cong,
+    /// An equation that holds or fails makes its sides equal or different.
+    Eq,
+    /// Two terms that are equal or different make their equation hold or fail.
     Back,
-    /// Two claims contradict each other.
+    /// A formula that holds or fails equals `True` or `False`.
+    Truth,
+    /// A formula that equals `True` or `False` holds or fails.
+    Untruth,
+    /// What the truth tables of the connectives give, from these free nodes.
+    Table(List<NodeId>),
+    /// Terms that equal two different ones are different.
+    Apart,
+    /// Claims that contradict each other.
     Clash,
 }
 
@@ -29,11 +49,24 @@ pub struct Line {
     pub claim: Claim,
 }
 
-/// A proof: its terms, and its lines in order.
+/// A branch of a proof other than the root: what it assumes besides its parent.
+#[derive(Drop, Debug, PartialEq, Eq)]
+pub struct Branch {
+    /// The number of the branch that it goes on from.
+    pub parent: u32,
+    /// The number of the first line that may stand in it.
+    pub after: u32,
+    /// What it assumes.
+    pub literal: Claim,
+}
+
+/// A proof: its terms, its branches and its lines in order.
 #[derive(Drop)]
 pub struct Proof {
     /// The terms that the claims speak of. They begin with those of the goal.
     pub terms: TermTable,
+    /// The branches other than the root, numbered from 1. They come in pairs, an odd number and the next one.
+    pub branches: List<Branch>,
     /// The lines, numbered from 0.
     pub lines: List<Line>,
 }

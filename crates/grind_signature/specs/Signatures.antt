@@ -65,7 +65,7 @@ pub record IsSignature (s : SignatureData) : Type 0 where
   pub labels : All IsLabel s.labels
   pub arities : All (IsFunctionOver (length s.sorts)) s.functions
 
--- what a node says is declared: its function or constant, with its sorts
+-- what a node says is declared: its function or constant, with its sorts. The other heads need no declaration
 abbrev pub IsDeclaredAs : SignatureData → List Constant → List Node → Node → Head → Type 0
 IsDeclaredAs s constants nodes node heads.True = Unit {0}
 IsDeclaredAs s constants nodes node heads.False = Unit {0}
@@ -75,15 +75,15 @@ IsDeclaredAs s constants nodes node (heads.Const c) =
 IsDeclaredAs s constants nodes node (heads.Fun f) =
     (g : Function) × (slice_get s.functions f ≡ Some g) × (node.sort ≡ g.result)
     × (map (sort_at nodes) node.args ≡ map Some g.args)
-IsDeclaredAs s constants nodes node heads.Not = ⊥
-IsDeclaredAs s constants nodes node heads.And = ⊥
-IsDeclaredAs s constants nodes node heads.Or = ⊥
-IsDeclaredAs s constants nodes node heads.Implies = ⊥
-IsDeclaredAs s constants nodes node heads.Le = ⊥
-IsDeclaredAs s constants nodes node (heads.Int n) = ⊥
-IsDeclaredAs s constants nodes node heads.Add = ⊥
-IsDeclaredAs s constants nodes node heads.Neg = ⊥
-IsDeclaredAs s constants nodes node heads.Mul = ⊥
+IsDeclaredAs s constants nodes node heads.Not = Unit {0}
+IsDeclaredAs s constants nodes node heads.And = Unit {0}
+IsDeclaredAs s constants nodes node heads.Or = Unit {0}
+IsDeclaredAs s constants nodes node heads.Implies = Unit {0}
+IsDeclaredAs s constants nodes node heads.Le = Unit {0}
+IsDeclaredAs s constants nodes node (heads.Int n) = Unit {0}
+IsDeclaredAs s constants nodes node heads.Add = Unit {0}
+IsDeclaredAs s constants nodes node heads.Neg = Unit {0}
+IsDeclaredAs s constants nodes node heads.Mul = Unit {0}
 
 abbrev pub IsDeclared : SignatureData → List Constant → List Node → Node → Type 0
 IsDeclared s constants nodes node = IsDeclaredAs s constants nodes node node.head
