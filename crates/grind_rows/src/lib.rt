@@ -1,0 +1,8 @@
+//! Runs of the whole program over files and sinks in memory, and the checker on whole proofs, compared
+//! with what they must answer.
+#![tactic(auto)]
+
+#[cfg(test)]
+mod checker_tests;
+#[cfg(test)]
+mod tests;

@@ -1,0 +1,263 @@
+//! Each row is a run of `solve` over a shelf and sinks in memory, with ample memory.
+ghost use Rattle.std.specs.Prelude.{◌<◌};
+
+use grind_cli::run::run;
+use grind_cli::status::Status;
+use grind_outside::{List, MemoryShelf, MemorySink, NamedFile};
+use std::alloc::Global;
+use std::process::Abort;
+use std::test::Fail;
+use std::thread::Threads;
+
+/// The report of the first theory of `examples`.
+const REFLEXIVE: &str = "sort S. fun f(S): S. goal g (a: S): |- f(a) = f(a).";
+
+const REFLEXIVE_REPORT: &str = "grind report 1
+goal g closed
+terms 5
+0 true
+1 false
+2 const a
+3 fun f 2
+4 eq 3 3
+branches 0
+lines 4
+0 0 negated : fails 4
+1 0 refl : same 3 3
+2 0 back 1 : holds 4
+3 0 clash 2 0 : absurd
+end 1
+";
+
+const EMPTY_REPORT: &str = "grind report 1\nend 0\n";
+
+/// What a run left.
+#[derive(Drop)]
+struct Left {
+    status: Status,
+    out: List<u8>,
+    notes: List<u8>,
+}
+
+fn words_of(alloc: Global, words: &[&str]) -> Result<Vec<String>, Fail> {
+    let mut list = Vec::new(alloc);
+    for word in words {
+        list.push(String::from_str(alloc, word)?)?;
+    }
+    Ok(list)
+}
+
+fn numbers(alloc: Global, items: &[u64]) -> Result<List<u64>, Fail> {
+    let mut list = List::new(alloc);
+    list.extend(items)?;
+    Ok(list)
+}
+
+/// Runs the words on a shelf that holds `t.gr` with these bytes.
+fn run_on(
+    rt: &(impl Threads + Sync + AllocGlobal),
+    words: &[&str],
+    text: &[u8],
+    shelf_fails: &[u64],
+    out_fails: &[u64],
+    most: usize,
+) -> Result<Left, Fail>
+    requires { 0 < most }
+{
+    let alloc = rt.alloc();
+    let words = words_of(alloc, words)?;
+    let mut files = List::new(alloc);
+    files.push(NamedFile::new(alloc, "t.gr", text)?)?;
+    let mut shelf = MemoryShelf::holding(files, numbers(alloc, shelf_fails)?);
+    let mut out = MemorySink::new(alloc, most, numbers(alloc, out_fails)?);
+    let mut notes = MemorySink::new(alloc, usize::MAX, numbers(alloc, &[])?);
+    let status = run(
+        rt,
+        alloc,
+        words.as_slice(),
+        &mut shelf,
+        &mut out,
+        &mut notes,
+    );
+    Ok(Left {
+        status,
+        out: out.bytes,
+        notes: notes.bytes,
+    })
+}
+
+fn is_text(bytes: &List<u8>, text: &str) -> bool {
+    bytes.as_slice() == text.as_bytes()
+}
+
+/// Asserts how a run of `solve t.gr` on this text ends, and what it writes.
+fn solves(
+    rt: &(impl Threads + Sync + Abort + AllocGlobal),
+    text: &str,
+    status: Status,
+    out: &str,
+    note: &str,
+) -> Result<(), Fail> {
+    let left = run_on(rt, &["solve", "t.gr"], text.as_bytes(), &[], &[], 4096)?;
+    assert!(rt; left.status == status, "{text}");
+    assert!(rt; is_text(&left.out, out), "{text}");
+    assert!(rt; is_text(&left.notes, note), "{text}");
+    Ok(())
+}
+
+#[test]
+fn theories(rt: HostRuntime) -> Result<(), Fail> {
+    solves(&rt, REFLEXIVE, Status::AllClosed, REFLEXIVE_REPORT, "")?;
+    solves(&rt, "", Status::AllClosed, EMPTY_REPORT, "")?;
+    solves(
+        &rt,
+        "-- nothing at all",
+        Status::AllClosed,
+        EMPTY_REPORT,
+        "",
+    )?;
+    solves(
+        &rt,
+        "sort S. goal t (a b: S): |- a = b.",
+        Status::SomeOpen,
+        "grind report 1\ngoal t open unexplored\nend 1\n",
+        "",
+    )
+}
+
+#[test]
+fn blocks_stand_in_the_order_of_the_goals(rt: HostRuntime) -> Result<(), Fail> {
+    let text = "sort S. fun c: S. fun f(S, S): S.\n\
+        goal first: |- c = f(c, c). goal second (x y: S, z: S): |- f(x, z) = f(x, z).\n\
+        goal third (x y: S): |- f(x, y) = f(y, x).";
+    let report = "grind report 1\n\
+        goal first open unexplored\n\
+        goal second closed\n\
+        terms 6\n0 true\n1 false\n2 const x\n3 const z\n4 fun f 2 3\n5 eq 4 4\n\
+        branches 0\n\
+        lines 4\n\
+        0 0 negated : fails 5\n1 0 refl : same 4 4\n2 0 back 1 : holds 5\n3 0 clash 2 0 : absurd\n\
+        goal third open unexplored\n\
+        end 3\n";
+    solves(&rt, text, Status::SomeOpen, report, "")
+}
+
+#[test]
+fn files_that_are_no_theory(rt: HostRuntime) -> Result<(), Fail> {
+    for text in [
+        // bytes and tokens
+        "sort S. @",
+        "sort S; ",
+        "sort S. -",
+        "sort S\u{e9}.",
+        "-- \u{e9}",
+        "1",
+        // grammar
+        "sort S",
+        "sort goal.",
+        "sort _.",
+        "sort S. fun f(S): S. goal g (a: S): |- f(a) = f(",
+        "sort S. fun a: S. goal t: a = a = a |- a = a.",
+        "sort S. goal t (a: S): |- a = a = a.",
+        "sort S. goal t (a: S): |- a.",
+        "sort S. goal t (): |- a = a.",
+        "sort S. goal t (a: S): a = a |- a = a.",
+        "sort S. fun f(): S.",
+        // names, numbers of arguments and sorts
+        "sort S. sort S.",
+        "sort S. goal S (a: S): |- a = a.",
+        "sort S. fun f: S. goal t (f: S): |- f = f.",
+        "sort S. goal t (a: S, a: S): |- a = a.",
+        "fun f(T): T.",
+        "sort S. goal t: |- a = a.",
+        "sort S. fun f(S): S. goal t (a: S): |- f(a, a) = a.",
+        "sort S. fun f(S): S. goal t: |- f = f.",
+        "sort S. goal t (a: S): |- a(a) = a.",
+        "sort S. sort T. fun f(S): S. goal t (a: T): |- f(a) = f(a).",
+        "sort S. sort T. goal t (a: S, b: T): |- a = b.",
+        "sort S. goal t (a: Int): |- a = a.",
+        "sort S. goal t (a: S): |- t = t.",
+        "sort S. fun f(S, S, S, S, S, S, S, S, S, S, S, S, S, S, S, S, S): S.",
+    ] {
+        solves(
+            &rt,
+            text,
+            Status::TheoryRefused,
+            "",
+            "grind: t.gr: not a first path theory\n",
+        )?;
+    }
+    Ok(())
+}
+
+#[test]
+fn files_at_the_edges_of_the_language(rt: HostRuntime) -> Result<(), Fail> {
+    for text in [
+        "\t\r\nsort\tS\r\n.--a comment, with no line feed behind it",
+        "sort S.fun f(S,S):S.fun _c:S.--x\n",
+        "sort S. fun f(S, S, S, S, S, S, S, S, S, S, S, S, S, S, S, S): S.",
+        // A goal's own name is not held while its binders are read.
+        "sort S. fun f(S): S. sort fun_. sort sort1.",
+    ] {
+        solves(&rt, text, Status::AllClosed, EMPTY_REPORT, "")?;
+    }
+    let own = "sort S. goal t (t: S): |- t = t.";
+    let left = run_on(&rt, &["solve", "t.gr"], own.as_bytes(), &[], &[], 1)?;
+    assert!(rt; left.status == Status::AllClosed);
+    Ok(())
+}
+
+#[test]
+fn words(rt: HostRuntime) -> Result<(), Fail> {
+    let refused: [&[&str]; 7] = [
+        &[],
+        &["solve"],
+        &["solve", "-t.gr"],
+        &["solve", "t.gr", "t.gr"],
+        &["check", "t.gr"],
+        &["solve", "t.gr", "--order=closure"],
+        &["Solve", "t.gr"],
+    ];
+    for words in refused {
+        let left = run_on(&rt, words, REFLEXIVE.as_bytes(), &[], &[], 4096)?;
+        assert!(rt; left.status == Status::WordsRefused);
+        assert!(rt; is_text(&left.out, ""));
+        assert!(rt; is_text(&left.notes, "grind: usage: solve FILE\n"));
+    }
+    Ok(())
+}
+
+#[test]
+fn faults(rt: HostRuntime) -> Result<(), Fail> {
+    let words = ["solve", "t.gr"];
+    let left = run_on(&rt, &words, REFLEXIVE.as_bytes(), &[0], &[], 4096)?;
+    assert!(rt; left.status == Status::ReadFault);
+    assert!(rt; is_text(&left.out, ""));
+    assert!(rt; is_text(&left.notes, "grind: cannot read t.gr\n"));
+
+    let left = run_on(&rt, &["solve", "absent.gr"], b"", &[], &[], 4096)?;
+    assert!(rt; left.status == Status::ReadFault);
+    assert!(rt; is_text(&left.notes, "grind: cannot read absent.gr\n"));
+
+    let left = run_on(&rt, &words, REFLEXIVE.as_bytes(), &[], &[1], 10)?;
+    assert!(rt; left.status == Status::WriteFault);
+    assert!(rt; is_text(&left.out, "grind repo"));
+    assert!(rt; is_text(&left.notes, "grind: cannot write\n"));
+    Ok(())
+}
+
+#[test]
+fn long_files(rt: HostRuntime) -> Result<(), Fail> {
+    let words = ["solve", "t.gr"];
+    let mut text = vec![in rt.alloc(); b' '; 4_194_304]?;
+    let left = run_on(&rt, &words, text.as_slice(), &[], &[], 4096)?;
+    assert!(rt; left.status == Status::AllClosed);
+    assert!(rt; is_text(&left.out, EMPTY_REPORT));
+
+    text.push(b' ')?;
+    let left = run_on(&rt, &words, text.as_slice(), &[], &[], 4096)?;
+    assert!(rt; left.status == Status::TooLong);
+    assert!(rt; is_text(&left.out, ""));
+    assert!(rt; is_text(&left.notes, "grind: t.gr: longer than 4194304 bytes\n"));
+    Ok(())
+}
