@@ -1,10 +1,10 @@
-//! The proof of a goal. A goal whose conclusion is an equation of a term with itself is proved; no
-//! other goal is looked into.
-ghost use Rattle.std.specs.Prelude.{◌≡◌, ◌<◌, ◌++◌, ◌∷◌, [], length, IfOk, OnOk, IfSome, IsNone};
+//! The proof of a goal. A goal whose conclusion is one of its hypotheses, or an equation of a term with
+//! itself, is proved; no other goal is looked into.
+ghost use Rattle.std.specs.Prelude.{◌≡◌, ◌<◌, ◌+◌, ◌++◌, ◌∷◌, [], ℕ, Some, Contains, length, slice_get, IfOk, OnOk, IfSome, IsNone};
 ghost use Rattle.grind_proof_kernel.specs.Rules.{IsEquation};
 ghost use Rattle.grind_cli.specs.Answers.{IsReflexive};
 ghost use Rattle.grind_report.specs.Blocks.{widest};
-ghost use Rattle.grind_cli.specs.Outcomes.{IsOutcomeOf, Proves, reflexive_lines};
+ghost use Rattle.grind_cli.specs.Outcomes.{IsOutcomeOf, ProvesGoal, IsAssumedAs, assumed_lines, reflexive_lines};
 
 use grind_outside::{List, Memory};
 use grind_proof_kernel::{Claim, Line, Proof, Rule};
@@ -14,7 +14,7 @@ use grind_term_graph::{Head, NodeId};
 use std::alloc::Global;
 
 /// What becomes of a goal: it is closed, by a proof that is typed for it, exactly where its conclusion
-/// is an equation of a term with itself.
+/// is one of its hypotheses or an equation of a term with itself.
 ///
 /// # Errors
 ///
@@ -22,11 +22,33 @@ use std::alloc::Global;
 pub fn solve_goal(alloc: Global, lemmas: &Lemmas, goal: &Goal) -> Result<Outcome, Memory>
     ensures { IfOk result (IsOutcomeOf lemmas.now goal.now) }
 {
+    if let Some(number) = assumed_as(goal) {
+        let proof = prove_assumed(alloc, lemmas, goal, number)?;
+        return Ok(Outcome::Closed(proof));
+    }
     let Some(side) = equal_side(goal) else {
         return Ok(Outcome::Unexplored);
     };
     let proof = prove_reflexive(alloc, lemmas, goal, side)?;
     Ok(Outcome::Closed(proof))
+}
+
+/// The number of a hypothesis that is the conclusion, counted from 1.
+fn assumed_as(goal: &Goal) -> Option<u32>
+    ensures some { IfSome result (IsAssumedAs goal.now) }
+    ensures none { IsNone result → ¬ Contains goal.now.hyps goal.now.show }
+{
+    let place = place_of(goal.hyps(), goal.show())?;
+    Some(place as u32 + 1)
+}
+
+/// The first place at which the node stands.
+fn place_of(nodes: &[NodeId], node: NodeId) -> Option<usize>
+    ensures some { IfSome result (λ k. slice_get nodes.now k ≡ Some node) }
+    ensures within { IfSome result (λ k. k < length nodes.now) }
+    ensures none { IsNone result → ¬ Contains nodes.now node }
+{
+    nodes.iter().position(|it| *it == node)
 }
 
 /// The term that stands on both sides of the goal's conclusion.
@@ -57,6 +79,29 @@ fn same_of(nodes: &[NodeId]) -> Option<NodeId>
     Some(*left)
 }
 
+/// The proof of a conclusion that is the hypothesis of this number.
+fn prove_assumed(
+    alloc: Global,
+    lemmas: &Lemmas,
+    goal: &Goal,
+    number: u32,
+) -> Result<Proof, Memory>
+    requires { IsAssumedAs goal.now number }
+    ensures { IfOk result (ProvesGoal lemmas.now goal.now) }
+{
+    let _name = goal.name();
+    let _nodes = goal.terms().len();
+    let show = goal.show();
+    let lines = assumed_lines_of(alloc, number, show)?;
+    let terms = goal.terms().copy(alloc, u32::MAX)?;
+    let branches = List::new(alloc);
+    Ok(Proof {
+        terms,
+        branches,
+        lines,
+    })
+}
+
 /// The proof of an equation of a term with itself.
 fn prove_reflexive(
     alloc: Global,
@@ -66,17 +111,34 @@ fn prove_reflexive(
 ) -> Result<Proof, Memory>
     requires equation { IsEquation goal.now.terms.nodes goal.now.show side side }
     requires bound { side < length goal.now.terms.nodes }
-    ensures { IfOk result (Proves lemmas.now goal.now) }
+    ensures { IfOk result (ProvesGoal lemmas.now goal.now) }
 {
     let _name = goal.name();
+    let _nodes = goal.terms().len();
     let show = goal.show();
+    let lines = reflexive_lines_of(alloc, show, side)?;
     let terms = goal.terms().copy(alloc, u32::MAX)?;
-    let lines = lines_of(alloc, show, side)?;
-    Ok(Proof { terms, lines })
+    let branches = List::new(alloc);
+    Ok(Proof {
+        terms,
+        branches,
+        lines,
+    })
 }
 
-/// The lines of that proof.
-fn lines_of(alloc: Global, show: NodeId, side: NodeId) -> Result<List<Line>, Memory>
+/// The lines of the proof of a hypothesis.
+fn assumed_lines_of(alloc: Global, number: u32, show: NodeId) -> Result<List<Line>, Memory>
+    ensures { IfOk result (λ lines. lines ≡ assumed_lines number show) }
+{
+    let mut lines = List::new(alloc);
+    push(alloc, &mut lines, Rule::Hyp(number), &[], Claim::Holds(show))?;
+    push(alloc, &mut lines, Rule::Negated, &[], Claim::Fails(show))?;
+    push(alloc, &mut lines, Rule::Clash, &[0, 1], Claim::Absurd)?;
+    Ok(lines)
+}
+
+/// The lines of the proof of an equation of a term with itself.
+fn reflexive_lines_of(alloc: Global, show: NodeId, side: NodeId) -> Result<List<Line>, Memory>
     ensures { IfOk result (λ lines. lines ≡ reflexive_lines show side) }
 {
     let mut lines = List::new(alloc);

@@ -1,0 +1,114 @@
+//! Makes a proof of a given size and checks it, so that a script can time the checker. The words are a family of
+//! proofs, a size, and how many threads may work.
+#![tactic(auto)]
+
+ghost use Rattle.std.specs.Prelude.{IfOk, ◌≤◌};
+ghost use Rattle.grind_proof_kernel.specs.Typing.{HasTerms};
+
+use grind_cli::reader::theory_of;
+use grind_outside::{List, Memory};
+use grind_proof_kernel::{Claim, Line, Proof, Rule, Verdict, check};
+use grind_schemes::Goal;
+use grind_term_graph::NodeId;
+use std::alloc::Global;
+use std::env;
+use std::process::ExitCode;
+use std::rt::Env;
+
+/// The theory whose goal the proofs are of: term 3 is `f(a)`, and term 4 the conclusion.
+const THEORY: &[u8] = b"sort S. fun f(S): S. goal g (a: S): |- f(a) = f(a).";
+
+/// No proof has more lines.
+const MOST: u32 = 4_000_000;
+
+fn main(rt: HostRuntime) -> ExitCode {
+    let Ok(Some(size)) = size_of(&rt) else {
+        return ExitCode::from(3);
+    };
+    match judged(rt.alloc(), size) {
+        Ok(Verdict::Typed) => ExitCode::from(0),
+        Ok(_) => ExitCode::from(1),
+        Err(Memory) => ExitCode::from(6),
+    }
+}
+
+/// The size that the words name, where they are `chain SIZE 1`.
+fn size_of(rt: &(impl Env + AllocGlobal)) -> std::io::Result<Option<u32>>
+    ensures { IfOk result (λ size. Unit {0}) }
+{
+    let mut words = Vec::new(rt.alloc());
+    for word in env::args(rt)?.skip(1) {
+        words.push(word)?;
+    }
+    let [family, size, jobs] = words.as_slice() else {
+        return Ok(None);
+    };
+    if family.as_str() != "chain" || jobs.as_str() != "1" {
+        return Ok(None);
+    }
+    match size.as_str().parse::<u32>() {
+        Ok(size) => Ok(Some(size)),
+        Err(_) => Ok(None),
+    }
+}
+
+/// What the checker says of the chain of so many lines.
+fn judged(alloc: Global, size: u32) -> Result<Verdict, Memory> {
+    let Ok(theory) = theory_of(alloc, THEORY) else {
+        return Err(Memory);
+    };
+    let Some(goal) = theory.goals.as_slice().first() else {
+        return Err(Memory);
+    };
+    let size = if size < MOST { size } else { MOST };
+    let proof = chain(alloc, goal, size)?;
+    check(alloc, &theory.lemmas, goal, &proof)
+}
+
+/// A proof of the goal with so many lines `trans` one behind the other.
+fn chain(alloc: Global, goal: &Goal, size: u32) -> Result<Proof, Memory>
+    requires { size ≤ 4000000 }
+    ensures { IfOk result (HasTerms goal.now) }
+{
+    let _name = goal.name();
+    let lines = lines_of(alloc, goal.show(), NodeId::new(3), size)?;
+    let branches = List::new(alloc);
+    let terms = goal.terms().copy(alloc, u32::MAX)?;
+    Ok(Proof {
+        terms,
+        branches,
+        lines,
+    })
+}
+
+/// The lines of the chain.
+fn lines_of(alloc: Global, show: NodeId, side: NodeId, size: u32) -> Result<List<Line>, Memory>
+    requires { size ≤ 4000000 }
+{
+    let mut lines = List::new(alloc);
+    push(alloc, &mut lines, Rule::Negated, &[], Claim::Fails(show))?;
+    push(alloc, &mut lines, Rule::Refl, &[], Claim::Same(side, side))?;
+    for last in 1..size + 1 {
+        push(alloc, &mut lines, Rule::Trans, &[last, 1], Claim::Same(side, side))?;
+    }
+    push(alloc, &mut lines, Rule::Back, &[size + 1], Claim::Holds(show))?;
+    push(alloc, &mut lines, Rule::Clash, &[size + 2, 0], Claim::Absurd)?;
+    Ok(lines)
+}
+
+fn push(
+    alloc: Global,
+    lines: &mut List<Line>,
+    rule: Rule,
+    from: &[u32],
+    claim: Claim,
+) -> Result<(), Memory> {
+    let mut premises = List::new(alloc);
+    premises.extend(from)?;
+    lines.push(Line {
+        branch: 0,
+        rule,
+        premises,
+        claim,
+    })
+}
