@@ -5,6 +5,8 @@
 pub mod checker;
 pub mod claim;
 pub mod proof;
+pub mod rules;
+pub mod table;
 
 pub use checker::{Verdict, check, check_line, derive};
 pub use claim::Claim;
