@@ -4,6 +4,7 @@
 
 pub mod checker;
 pub mod claim;
+pub mod laws;
 pub mod proof;
 pub mod rules;
 pub mod table;

@@ -1,4 +1,4 @@
-use Rattle.std.proofs.Common.{◌≡◌, ◌↔◌, ◌<◌, length, All, ℕ}
+use Rattle.std.proofs.Common.{◌≡◌, ◌↔◌, ◌<◌, length, All}
 use Rattle.grind_proof_kernel.specs.Claims.{claims_at}
 use Rattle.grind_proof_kernel.specs.Rules.{SayEqual}
 use Rattle.grind_proof_kernel.proofs.rules.congruence.say_equal.Given as goal
