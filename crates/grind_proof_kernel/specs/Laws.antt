@@ -1,14 +1,16 @@
 -- What holds of every typed line.
-use Rattle.std.specs.Prelude.{◌≡◌, ℕ, ◌<◌, ◌⊎◌, List, ◌++◌, length, slice_get}
+use Rattle.std.specs.Prelude.{◌≡◌, ℕ, ◌<◌, ◌⊎◌, List, ◌++◌, length, Option, slice_get}
 use Rattle.std.specs.Option.{IsSomeAnd}
 use Rattle.grind_term_graph.specs.declared.node.Node.{Node}
 use Rattle.grind_schemes.specs.Goals.{GoalData}
 use Rattle.grind_schemes.specs.declared.lemmas.Lemmas.{Lemmas}
+use Rattle.grind_proof_kernel.specs.declared.claim.Claim.{Claim}
 use Rattle.grind_proof_kernel.specs.declared.proof.Branch.{Branch}
 use Rattle.grind_proof_kernel.specs.declared.proof.Line.{Line}
 use Rattle.grind_proof_kernel.specs.declared.proof.Proof.{Proof}
 use Rattle.grind_proof_kernel.specs.declared.proof.Rule.{Rule}
 use Rattle.grind_proof_kernel.specs.declared.proof.Rule.TheVariants as rules
+use Rattle.grind_proof_kernel.specs.Rules.{Says}
 use Rattle.grind_proof_kernel.specs.Typing.{IsTypedAs, TypedLine, appended}
 
 -- the new proof is the old one with more terms, more branches and more lines behind them
@@ -22,6 +24,12 @@ abbrev pub TypedLinesStay : Type 0
 TypedLinesStay =
     (lemmas : Lemmas) (goal : GoalData) (old new : Proof) (i : ℕ) →
     Extends old new → TypedLine lemmas goal old i → TypedLine lemmas goal new i
+
+-- what a rule lets a line claim stays so where terms are put behind the others
+abbrev pub SaysStays : Type 0
+SaysStays =
+    (goal : GoalData) (nodes more : List Node) (literal : Option Claim) (rule : Rule) (premises : List (Option Claim)) (claim : Claim) →
+    Says goal nodes literal rule premises claim → Says goal (nodes ++ more) literal rule premises claim
 
 -- a line that is typed behind the lines of a proof is typed once it stands there
 abbrev pub TypedNextLine : Type 0

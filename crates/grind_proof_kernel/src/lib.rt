@@ -4,7 +4,10 @@
 
 pub mod checker;
 pub mod claim;
+pub mod laws;
 pub mod proof;
+pub mod rules;
+pub mod table;
 
 pub use checker::{Verdict, check, check_line, derive};
 pub use claim::Claim;

@@ -1,0 +1,74 @@
+-- What stays where lists grow behind.
+use Rattle.std.proofs.Common.{◌≡◌, ℕ, ◌<◌, ◌++◌, List, [], ◌∷◌, Some, IsSome, suc, zero, length, refl, sym, ◌∙◌, arith}
+use Rattle.std.specs.Prelude.{slice_get}
+use Rattle.std.specs.Option.{IsSomeAnd, option_map}
+use Rattle.grind_term_graph.specs.declared.node.Node.{Node}
+use Rattle.grind_term_graph.specs.Terms.{prop, sort_at}
+use Rattle.grind_proof_kernel.specs.declared.claim.Claim.{Claim}
+use Rattle.grind_proof_kernel.specs.declared.claim.Claim.TheVariants.{Holds, Fails, Same, Differ, Absurd}
+use Rattle.grind_proof_kernel.specs.Claims.{AreOfOneSort, IsFormed}
+
+-- what holds of an item still holds of it
+pub some_and_stays : {X : Type 0} (P : X → Type 0) (xs ys : List X) (i : ℕ) →
+    IsSomeAnd (slice_get xs i) P → IsSomeAnd (slice_get (xs ++ ys) i) P
+some_and_stays P [] ys i h = absurd h
+some_and_stays P (x ∷ xs) ys zero h = h
+some_and_stays P (x ∷ xs) ys (suc i) h = some_and_stays P xs ys i h
+
+-- a field of an item that stands there stays what it is
+pub field_is_still : {X Y : Type 0} (f : X → Y) (xs ys : List X) (i : ℕ) (y : Y) →
+    option_map f (slice_get xs i) ≡ Some y → option_map f (slice_get (xs ++ ys) i) ≡ Some y
+field_is_still f [] ys i y h = absurd cc
+field_is_still f (x ∷ xs) ys zero y h = h
+field_is_still f (x ∷ xs) ys (suc i) y h = field_is_still f xs ys i y h
+
+-- a field of an item stays
+pub field_stays : {X Y : Type 0} (f : X → Y) (xs ys : List X) (i : ℕ) →
+    IsSome (option_map f (slice_get xs i)) → option_map f (slice_get (xs ++ ys) i) ≡ option_map f (slice_get xs i)
+field_stays f [] ys i h = cc
+field_stays f (x ∷ xs) ys zero h = refl
+field_stays f (x ∷ xs) ys (suc i) h = field_stays f xs ys i h
+
+-- an item of which something holds has each field
+pub field_of_some : {X Y : Type 0} (f : X → Y) (P : X → Type 0) (xs : List X) (i : ℕ) →
+    IsSomeAnd (slice_get xs i) P → IsSome (option_map f (slice_get xs i))
+field_of_some f P [] i h = absurd h
+field_of_some f P (x ∷ xs) zero h = refl
+field_of_some f P (x ∷ xs) (suc i) h = field_of_some f P xs i h
+
+-- an item stays where it stands
+pub item_stays : {X : Type 0} (xs ys : List X) (i : ℕ) (x : X) → slice_get xs i ≡ Some x → slice_get (xs ++ ys) i ≡ Some x
+item_stays [] ys i x h = absurd cc
+item_stays (y ∷ xs) ys zero x h = h
+item_stays (y ∷ xs) ys (suc i) x h = item_stays xs ys i x h
+
+-- what stands within a list stays
+pub within_stays : {X : Type 0} (xs ys : List X) (i : ℕ) → i < length xs → slice_get (xs ++ ys) i ≡ slice_get xs i
+within_stays [] ys i within = absurd (omega arith)
+within_stays (x ∷ xs) ys zero within = refl
+within_stays (x ∷ xs) ys (suc i) within = within_stays xs ys i (omega arith)
+
+-- sorts stay
+pub sort_stays : (nodes more : List Node) (node : ℕ) →
+    IsSome (sort_at nodes node) → sort_at (nodes ++ more) node ≡ sort_at nodes node
+sort_stays nodes more node h = field_stays (λ (it : Node). it.sort) nodes more node h
+
+-- formulas stay formulas
+pub formula_stays : (nodes more : List Node) (node : ℕ) → sort_at nodes node ≡ Some prop → sort_at (nodes ++ more) node ≡ Some prop
+formula_stays nodes more node h = field_is_still (λ (it : Node). it.sort) nodes more node prop h
+
+-- two nodes of one sort stay so
+one_sort_stays : (nodes more : List Node) (left right : ℕ) → AreOfOneSort nodes left right → AreOfOneSort (nodes ++ more) left right
+one_sort_stays nodes more left right h =
+    let other : IsSome (sort_at nodes right) = rw (← h.1) h.0 in
+    let l = sort_stays nodes more left h.0 in
+    let r = sort_stays nodes more right other in
+    (rw l h.0, l ∙ h.1 ∙ sym r)
+
+-- well-formed claims stay well formed
+pub formed_stays : (nodes more : List Node) (claim : Claim) → IsFormed nodes claim → IsFormed (nodes ++ more) claim
+formed_stays nodes more (Holds node) h = formula_stays nodes more node h
+formed_stays nodes more (Fails node) h = formula_stays nodes more node h
+formed_stays nodes more (Same left right) h = one_sort_stays nodes more left right h
+formed_stays nodes more (Differ left right) h = one_sort_stays nodes more left right h
+formed_stays nodes more Absurd h = tt

@@ -1,0 +1,58 @@
+-- What a rule lets a line claim stays so where terms are put behind the others.
+use Rattle.std.proofs.Common.{ℕ, Option, ◌++◌, List, inl, inr}
+use Rattle.grind_term_graph.specs.declared.node.Node.{Node}
+use Rattle.grind_proof_kernel.specs.declared.claim.Claim.{Claim}
+use Rattle.grind_proof_kernel.specs.declared.proof.Rule.TheVariants as rules
+use Rattle.grind_proof_kernel.specs.Rules.{IsEquationOf, IsCong, IsEq, IsBack, AreTwoNumbers, IsImpossible, IsClash}
+use Rattle.grind_proof_kernel.specs.Laws.{SaysStays}
+use Rattle.grind_proof_kernel.proofs.Growth.{some_and_stays, item_stays}
+use Rattle.grind_proof_kernel.proofs.TableGrowth.{table_stays}
+
+-- an equation of two nodes in either order stays one
+equation_stays : (nodes more : List Node) (node a b : ℕ) → IsEquationOf nodes node a b → IsEquationOf (nodes ++ more) node a b
+equation_stays nodes more node a b (inl h) = inl (some_and_stays _ nodes more node h)
+equation_stays nodes more node a b (inr h) = inr (some_and_stays _ nodes more node h)
+
+cong_stays : (nodes more : List Node) (premises : List (Option Claim)) (claim : Claim) →
+    IsCong nodes premises claim → IsCong (nodes ++ more) premises claim
+cong_stays nodes more premises claim h =
+    (h.0, h.1, h.2, h.3, h.4, item_stays nodes more h.0 h.2 h.5, item_stays nodes more h.1 h.3 h.6, h.7, h.8, h.9, h.10)
+
+eq_stays : (nodes more : List Node) (premises : List (Option Claim)) (claim : Claim) →
+    IsEq nodes premises claim → IsEq (nodes ++ more) premises claim
+eq_stays nodes more premises claim h = (h.0, h.1, h.2, some_and_stays _ nodes more h.0 h.3, h.4)
+
+back_stays : (nodes more : List Node) (premises : List (Option Claim)) (claim : Claim) →
+    IsBack nodes premises claim → IsBack (nodes ++ more) premises claim
+back_stays nodes more premises claim h = (h.0, h.1, h.2, equation_stays nodes more h.2 h.0 h.1 h.3, h.4)
+
+-- two different numbers stay so
+numbers_stay : (nodes more : List Node) (a b : ℕ) → AreTwoNumbers nodes a b → AreTwoNumbers (nodes ++ more) a b
+numbers_stay nodes more a b h =
+    (h.0, h.1, some_and_stays _ nodes more a h.2, some_and_stays _ nodes more b h.3, h.4)
+
+-- a claim that cannot be stays so
+impossible_stays : (nodes more : List Node) (one : Option Claim) → IsImpossible nodes one → IsImpossible (nodes ++ more) one
+impossible_stays nodes more one h =
+    (h.0, h.1, h.2, elim h.3 [ inl truths ↦ inl truths | inr numbers ↦ inr (numbers_stay nodes more h.0 h.1 numbers) ])
+
+clash_stays : (nodes more : List Node) (premises : List (Option Claim)) (claim : Claim) →
+    IsClash nodes premises claim → IsClash (nodes ++ more) premises claim
+clash_stays nodes more premises claim h =
+    (h.0, elim h.1 [ inl two ↦ inl two | inr lone ↦ inr (lone.0, lone.1, impossible_stays nodes more lone.0 lone.2) ])
+
+pub says_stays : SaysStays
+says_stays goal nodes more literal (rules.Hyp i) premises claim h = h
+says_stays goal nodes more literal rules.Negated premises claim h = h
+says_stays goal nodes more literal rules.Branch premises claim h = h
+says_stays goal nodes more literal rules.Refl premises claim h = h
+says_stays goal nodes more literal rules.Sym premises claim h = h
+says_stays goal nodes more literal rules.Trans premises claim h = h
+says_stays goal nodes more literal rules.Cong premises claim h = cong_stays nodes more premises claim h
+says_stays goal nodes more literal rules.Eq premises claim h = eq_stays nodes more premises claim h
+says_stays goal nodes more literal rules.Back premises claim h = back_stays nodes more premises claim h
+says_stays goal nodes more literal rules.Truth premises claim h = h
+says_stays goal nodes more literal rules.Untruth premises claim h = h
+says_stays goal nodes more literal (rules.Table free) premises claim h = table_stays nodes more free premises claim h
+says_stays goal nodes more literal rules.Apart premises claim h = h
+says_stays goal nodes more literal rules.Clash premises claim h = clash_stays nodes more premises claim h

@@ -1,0 +1,38 @@
+-- What single rules read.
+use Rattle.std.proofs.Common.{◌≡◌, ℕ, ◌+◌, ◌-◌, ◌<◌, ◌↔◌, List, [], ◌∷◌, Some, length, All, refl, arith}
+use Rattle.std.specs.Prelude.{slice_get}
+use Rattle.std.proofs.lemmas.List.Elements.{All-tail}
+use Rattle.grind_schemes.specs.Goals.{GoalData}
+use Rattle.grind_proof_kernel.specs.declared.claim.Claim.TheVariants.{Holds, Same}
+use Rattle.grind_proof_kernel.specs.declared.proof.Line.{Line}
+use Rattle.grind_proof_kernel.specs.Claims.{claim_at, claims_at}
+use Rattle.grind_proof_kernel.specs.Rules.{IsHyp, SayEqual}
+
+-- where hypothesis i stands
+hyp_stands : (hyps : List ℕ) (i n k m : ℕ) → i ≡ k + 1 → slice_get hyps k ≡ Some m → Holds n ≡ Holds m →
+    slice_get hyps (i - 1) ≡ Some n
+hyp_stands hyps i n k m e there same =
+    let place : i - 1 ≡ k = omega arith in
+    let node : n ≡ m = cc in
+    rw (place, node) there
+
+-- hypothesis i stands at place i - 1
+pub hyp_from_place : (goal : GoalData) (i n : ℕ) → 0 < i →
+    IsHyp goal i [] (Holds n) ↔ (slice_get goal.hyps (i - 1) ≡ Some n)
+hyp_from_place goal i n above =
+    let here : i ≡ i - 1 + 1 = omega arith in
+    (λ h. hyp_stands goal.hyps i n h.0 h.1 h.2 h.3 h.5, λ e. (i - 1, n, here, e, refl, refl))
+
+-- once the first are equal, the others say the same as all
+pub say_equal_goes_on : {W : Type 0} (lines : List Line) (xs ys ps xs_tail ys_tail ps_tail : List ℕ) (a b p : ℕ) →
+    xs ≡ a ∷ xs_tail → ys ≡ b ∷ ys_tail → ps ≡ p ∷ ps_tail → claim_at lines p ≡ Some (Same a b) →
+    (SayEqual xs ys (claims_at lines ps) ↔ W) → SayEqual xs_tail ys_tail (claims_at lines ps_tail) ↔ W
+say_equal_goes_on lines xs ys ps xs_tail ys_tail ps_tail a b p ex ey ep first all =
+    let h = rw (ex, ey, ep) at all in
+    (λ others. h.0 (first, others), λ w. (h.1 w).1)
+
+-- where all premises are lines, so are all but the first
+pub others_within : (lines : List Line) (ps ps_tail : List ℕ) (p : ℕ) → ps ≡ p ∷ ps_tail →
+    All (λ n. n < length lines) ps → All (λ n. n < length lines) ps_tail
+others_within lines ps ps_tail p e within =
+    All-tail (λ n. n < length lines) p ps_tail (rw e at within)

@@ -1,0 +1,87 @@
+//! The rules of what is assumed, and of formulas as terms: hyp, negated, branch, truth and untruth.
+ghost use Rattle.std.specs.Prelude.{IsTrue, ◌↔◌, ◌≡◌, ◌<◌, Some, length, All, slice_get, option_copied};
+ghost use Rattle.grind_proof_kernel.specs.Claims.{claims_at};
+ghost use Rattle.grind_proof_kernel.specs.Rules.{IsHyp, IsNegated, IsAssumed, IsTruth, IsUntruth};
+
+use super::premises::only_premise;
+use crate::claim::Claim;
+use crate::proof::Line;
+use grind_schemes::Goal;
+use grind_term_graph::NodeId;
+
+#[tactic(auto, using(crate::proofs::RuleLemmas::hyp_from_place))]
+/// hyp: from nothing, hypothesis `i` of the goal holds, counted from 1.
+pub fn is_hyp(goal: &Goal, i: u32, lines: &[Line], premises: &[u32], claim: &Claim) -> bool
+    ensures { IsTrue result ↔ IsHyp goal.now i (claims_at lines.now premises.now) claim.now }
+{
+    let Claim::Holds(node) = claim else {
+        return false;
+    };
+    if i == 0 || !premises.is_empty() {
+        return false;
+    }
+    stands_at(goal.hyps(), i as usize - 1, *node)
+}
+
+/// Whether the node stands at that place, counted from 0.
+fn stands_at(nodes: &[NodeId], place: usize, node: NodeId) -> bool
+    ensures { IsTrue result ↔ (slice_get nodes.now place ≡ Some node) }
+{
+    place < nodes.len() && nodes[place] == node
+}
+
+/// negated: from nothing, the conclusion of the goal fails.
+pub fn is_negated(goal: &Goal, lines: &[Line], premises: &[u32], claim: &Claim) -> bool
+    ensures { IsTrue result ↔ IsNegated goal.now (claims_at lines.now premises.now) claim.now }
+{
+    let Claim::Fails(node) = claim else {
+        return false;
+    };
+    premises.is_empty() && *node == goal.show()
+}
+
+/// branch: from nothing, what the branch assumes.
+pub fn is_assumed(literal: Option<&Claim>, lines: &[Line], premises: &[u32], claim: &Claim) -> bool
+    ensures { IsTrue result ↔ IsAssumed (option_copied literal.entry) (claims_at lines.now premises.now) claim.now }
+{
+    let Some(assumed) = literal else {
+        return false;
+    };
+    premises.is_empty() && assumed == claim
+}
+
+/// truth: a formula that holds equals `True`, and one that fails `False`.
+pub fn is_truth(lines: &[Line], premises: &[u32], claim: &Claim) -> bool
+    requires { All (λ p. p < length lines.now) premises.now }
+    ensures { IsTrue result ↔ IsTruth (claims_at lines.now premises.now) claim.now }
+{
+    let Some(premise) = only_premise(lines, premises) else {
+        return false;
+    };
+    let Claim::Same(node, truth) = claim else {
+        return false;
+    };
+    match premise {
+        Claim::Holds(holding) => holding == node && *truth == NodeId::TRUE,
+        Claim::Fails(failing) => failing == node && *truth == NodeId::FALSE,
+        _ => false,
+    }
+}
+
+/// untruth: what equals `True` holds, and what equals `False` fails.
+pub fn is_untruth(lines: &[Line], premises: &[u32], claim: &Claim) -> bool
+    requires { All (λ p. p < length lines.now) premises.now }
+    ensures { IsTrue result ↔ IsUntruth (claims_at lines.now premises.now) claim.now }
+{
+    let Some(premise) = only_premise(lines, premises) else {
+        return false;
+    };
+    let Claim::Same(node, truth) = premise else {
+        return false;
+    };
+    match claim {
+        Claim::Holds(holding) => holding == node && *truth == NodeId::TRUE,
+        Claim::Fails(failing) => failing == node && *truth == NodeId::FALSE,
+        _ => false,
+    }
+}
