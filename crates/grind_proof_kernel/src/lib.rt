@@ -2,9 +2,12 @@
 //! each typed line and refuses each other one, and names the first.
 #![tactic(auto)]
 
+pub mod branches;
 pub mod checker;
 pub mod claim;
 pub mod proof;
+pub mod rules;
+pub mod table;
 
 pub use checker::{Verdict, check, check_line, derive};
 pub use claim::Claim;

@@ -1,0 +1,2 @@
+//! The rule `table`.
+ghost use Rattle.std.specs.Prelude.{IsTrue};
