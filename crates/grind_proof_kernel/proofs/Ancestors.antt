@@ -1,5 +1,5 @@
 -- Which branches stand above a branch.
-use Rattle.std.proofs.Common.{◌≡◌, ℕ, ◌+◌, ◌<◌, ◌≤◌, suc, zero, List, Option, Some, None, length, refl, ap, sym, subst, ◌∙◌, add-one, arith, inl, inr}
+use Rattle.std.proofs.Common.{◌≡◌, ℕ, ◌<◌, ◌≤◌, suc, zero, List, Some, None, ap, sym, ◌∙◌, arith, inl, inr}
 use Rattle.std.proofs.lemmas.Bool.{cases_order}
 use Rattle.std.specs.Prelude.{option_and_then}
 use Rattle.grind_proof_kernel.specs.declared.proof.Branch.{Branch}
@@ -13,11 +13,11 @@ none_above branches branch steps zero le none =
     ap (λ s. branch_above branches s branch) (sym e) ∙ none
 none_above branches branch steps (suc k) le none =
     elim (cases_order steps (suc k)) [
-        inl e ↦ ap (λ s. branch_above branches s branch) (sym e) ∙ none
+      | inl e ↦ ap (λ s. branch_above branches s branch) (sym e) ∙ none
       | inr other ↦ elim other [
-            inl low ↦ ap (option_and_then (parent_of branches)) (none_above branches branch steps k (omega arith) none)
-          | inr high ↦ absurd (omega arith)
-        ]
+        | inl low ↦ ap (option_and_then (parent_of branches)) (none_above branches branch steps k (omega arith) none)
+        | inr high ↦ absurd (omega arith)
+      ]
     ]
 
 -- the branch `at` that many steps above has no parent, and the wanted one does not stand below it, nor is it `at`
@@ -26,16 +26,16 @@ pub none_reaches : (branches : List Branch) (branch steps at above : ℕ) →
     ((k : ℕ) → k < steps → ¬ (branch_above branches k branch ≡ Some above)) → ¬ Reaches branches above branch
 none_reaches branches branch steps at above here none other below found =
     elim (cases_order steps found.0) [
-        inl e ↦
-            let there : branch_above branches found.0 branch ≡ Some at = ap (λ s. branch_above branches s branch) (sym e) ∙ here in
-            let reached = found.2 in
-            other cc
+      | inl e ↦
+          let there : branch_above branches found.0 branch ≡ Some at = ap (λ s. branch_above branches s branch) (sym e) ∙ here in
+          let reached = found.2 in
+          other cc
       | inr order ↦ elim order [
-            inl low ↦
-                let next : branch_above branches (suc steps) branch ≡ None = ap (option_and_then (parent_of branches)) here ∙ none in
-                let gone = none_above branches branch (suc steps) found.0 (omega arith) next in
-                let reached = found.2 in
-                cc
-          | inr high ↦ below found.0 high found.2
-        ]
+        | inl low ↦
+            let next : branch_above branches (suc steps) branch ≡ None = ap (option_and_then (parent_of branches)) here ∙ none in
+            let gone = none_above branches branch (suc steps) found.0 (omega arith) next in
+            let reached = found.2 in
+            cc
+        | inr high ↦ below found.0 high found.2
+      ]
     ]

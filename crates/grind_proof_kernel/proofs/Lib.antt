@@ -1,2 +1,5 @@
 pub mod Ancestors
 pub mod Pairs
+pub mod TruthLemmas
+pub mod AssignmentLemmas
+pub mod FollowsLemmas

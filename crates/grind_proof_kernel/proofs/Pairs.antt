@@ -1,5 +1,5 @@
 -- Which of a pair a branch is.
-use Rattle.std.proofs.Common.{◌≡◌, ℕ, ◌+◌, ◌<◌, ◌≤◌, List, Option, Some, None, length, refl, ap, sym, subst, ◌∙◌, arith, inl, inr, IsTrue, ◌↔◌, Bool}
+use Rattle.std.proofs.Common.{◌≡◌, ℕ, ◌+◌, List, sym, subst, arith, inl, inr, IsTrue, ◌↔◌, Bool}
 use Rattle.std.specs.Option.{IsSomeAnd}
 use Rattle.grind_term_graph.specs.declared.node.Node.{Node}
 use Rattle.grind_proof_kernel.specs.declared.proof.Branch.{Branch}
@@ -11,13 +11,13 @@ pub in_pair_first : (nodes : List Node) (branches : List Branch) (lines : List L
     branch ≡ k + k + 1 → ((j : ℕ) × IsInPair nodes branches lines j branch it) → IsFirst nodes branches lines k it
 in_pair_first nodes branches lines k branch it e found =
     elim found.1 [
-        inl first ↦
-            let p = first.0 in
-            let same : found.0 ≡ k = omega arith in
-            subst (λ (j : ℕ). IsFirst nodes branches lines j it) same first.1
+      | inl first ↦
+          let p = first.0 in
+          let same : found.0 ≡ k = omega arith in
+          subst (λ (j : ℕ). IsFirst nodes branches lines j it) same first.1
       | inr second ↦
-            let p = second.0 in
-            absurd (omega arith)
+          let p = second.0 in
+          absurd (omega arith)
     ]
 
 -- a branch of that number is the second of its pair
@@ -26,13 +26,13 @@ pub in_pair_second : (nodes : List Node) (branches : List Branch) (lines : List 
     IsSomeAnd (branch_at branches (k + k + 1)) (λ (first : Branch). IsSecond first it)
 in_pair_second nodes branches lines k branch it e found =
     elim found.1 [
-        inl first ↦
-            let p = first.0 in
-            absurd (omega arith)
+      | inl first ↦
+          let p = first.0 in
+          absurd (omega arith)
       | inr second ↦
-            let p = second.0 in
-            let same : found.0 ≡ k = omega arith in
-            subst (λ (j : ℕ). IsSomeAnd (branch_at branches (j + j + 1)) (λ (first : Branch). IsSecond first it)) same second.1
+          let p = second.0 in
+          let same : found.0 ≡ k = omega arith in
+          subst (λ (j : ℕ). IsSomeAnd (branch_at branches (j + j + 1)) (λ (first : Branch). IsSecond first it)) same second.1
     ]
 
 -- the test of a first branch is that of its place
@@ -48,6 +48,7 @@ pub second_in_pair : (nodes : List Node) (branches : List Branch) (lines : List 
     (IsTrue is ↔ IsSomeAnd (branch_at branches first) (λ (first : Branch). IsSecond first it)) →
     IsTrue is ↔ ((j : ℕ) × IsInPair nodes branches lines j branch it)
 second_in_pair nodes branches lines k branch first it is e before told =
-    let P : ℕ → Type 0 = λ number. IsSomeAnd (branch_at branches number) (λ (first : Branch). IsSecond first it) in
-    (λ y. (k, inr (e, subst P before (told.0 y))),
-     λ found. told.1 (subst P (sym before) (in_pair_second nodes branches lines k branch it e found)))
+    let P : ℕ → Type 0 = λ number. IsSomeAnd (branch_at branches number) (λ (first : Branch). IsSecond first it) in (
+      λ y. (k, inr (e, subst P before (told.0 y))),
+      λ found. told.1 (subst P (sym before) (in_pair_second nodes branches lines k branch it e found)),
+    )

@@ -78,13 +78,7 @@ fn serves(branches: &[Branch], lines: &[Line], i: u32, branch: u32, premise: u32
 }
 
 /// Whether line `i` of the branch may use each of these lines.
-pub fn all_serve(
-    branches: &[Branch],
-    lines: &[Line],
-    i: u32,
-    branch: u32,
-    premises: &[u32],
-) -> bool
+pub fn all_serve(branches: &[Branch], lines: &[Line], i: u32, branch: u32, premises: &[u32]) -> bool
     requires { i ≤ length lines.now }
     ensures { IsTrue result ↔ All (Serves branches.now lines.now i branch) premises.now }
 {
@@ -113,8 +107,7 @@ pub fn is_good_branch(proof: &Proof, branch: u32) -> bool
 fn is_whole(branches: &[Branch], lines: &[Line], branch: u32, after: u32) -> bool
     ensures { IsTrue result ↔ IsWhole branches.now lines.now branch after }
 {
-    stands_behind(lines, branch, after)
-        && (is_parent(branches, branch) || is_closed(lines, branch))
+    stands_behind(lines, branch, after) && (is_parent(branches, branch) || is_closed(lines, branch))
 }
 
 /// Whether each line of the branch stands at that line or behind it.
@@ -217,13 +210,7 @@ fn follows_first(branches: &[Branch], first: u32, it: &Branch) -> bool
 }
 
 /// Whether a branch is as the first one of that pair has to be.
-fn is_first(
-    terms: &TermTable,
-    branches: &[Branch],
-    lines: &[Line],
-    pair: u32,
-    it: &Branch,
-) -> bool
+fn is_first(terms: &TermTable, branches: &[Branch], lines: &[Line], pair: u32, it: &Branch) -> bool
     ensures { IsTrue result ↔ IsFirst terms.now.nodes branches.now lines.now pair it.now }
 {
     let pair = pair as usize;

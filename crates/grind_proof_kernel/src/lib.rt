@@ -8,6 +8,7 @@ pub mod claim;
 pub mod proof;
 pub mod rules;
 pub mod table;
+mod truths;
 
 pub use checker::{Verdict, check, check_line, derive};
 pub use claim::Claim;

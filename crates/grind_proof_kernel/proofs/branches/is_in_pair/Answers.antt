@@ -1,4 +1,4 @@
-use Rattle.std.proofs.Common.{◌+◌, ◌-◌, ◌/◌, arith}
+use Rattle.std.proofs.Common.{◌-◌, ◌/◌, arith}
 use Rattle.grind_proof_kernel.proofs.Pairs.{first_in_pair, second_in_pair}
 use Rattle.grind_proof_kernel.proofs.branches.is_in_pair.Goals as goal
 

@@ -1,5 +1,5 @@
-use Rattle.std.proofs.Common.{rules, ◌≡◌, Some, None, sym, ◌∙◌}
-use Rattle.grind_proof_kernel.specs.Typing.{parent_of, branch_above}
+use Rattle.std.proofs.Common.{rules, ◌≡◌, None, sym, ◌∙◌}
+use Rattle.grind_proof_kernel.specs.Typing.{parent_of}
 use Rattle.grind_proof_kernel.proofs.Ancestors.{none_reaches}
 use Rattle.grind_proof_kernel.proofs.branches.reaches.Goals as goal
 
