@@ -124,7 +124,7 @@ IsImpossible nodes one = (a : ℕ) × (b : ℕ) × (one ≡ Some (Same a b)) × 
 abbrev pub IsClash : List Node → List (Option Claim) → Claim → Type 0
 IsClash nodes premises claim = (claim ≡ Absurd)
     × (((one : Option Claim) × (other : Option Claim)
-        × ((premises ≡ one ∷ other ∷ []) ⊎ (premises ≡ other ∷ one ∷ [])) × (AreOpposed one other ⊎ AreSplit one other))
+    × ((premises ≡ one ∷ other ∷ []) ⊎ (premises ≡ other ∷ one ∷ [])) × (AreOpposed one other ⊎ AreSplit one other))
     ⊎ ((one : Option Claim) × (premises ≡ one ∷ []) × IsImpossible nodes one))
 
 -- the rule lets a line claim this, in a branch that assumes the literal, with premises of these claims

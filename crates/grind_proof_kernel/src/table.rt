@@ -33,19 +33,25 @@ pub fn is_table(
     if free.len() > 6 || !are_different(free) || !are_formulas(terms, free) {
         return Ok(false);
     }
-    let bound = bound_of(lines, premises, claim);
-    let always = follows_always(
-        alloc,
+    let question = Question {
         terms,
         free,
-        bound,
         lines,
         premises,
         claim,
-        &[],
-        free.len(),
-    )?;
+    };
+    let always = follows_always(alloc, &question, &[], free.len())?;
     Ok(always)
+}
+
+/// What the rule is asked: whether the claim follows from the premises, whatever truths the free nodes have.
+#[derive(Drop)]
+struct Question<'a> {
+    terms: &'a TermTable,
+    free: &'a [NodeId],
+    lines: &'a [Line],
+    premises: &'a [u32],
+    claim: &'a Claim,
 }
 
 /// Whether no node stands in the list twice.
@@ -127,52 +133,26 @@ fn above_node(node: NodeId, bound: usize) -> usize
 /// Whether the claim follows under each assignment that begins with the chosen truths and has so many more.
 fn follows_always(
     alloc: Global,
-    terms: &TermTable,
-    free: &[NodeId],
-    bound: usize,
-    lines: &[Line],
-    premises: &[u32],
-    claim: &Claim,
+    question: &Question,
     chosen: &[bool],
     more: usize,
 ) -> Result<bool, Memory>
-    requires premises { All (IsBelowIfAny bound) (claims_at lines.now premises.now) }
-    requires claim { IsBelow bound claim.now }
     ensures { IfOk result (λ yes. IsTrue yes ↔ HoldsBehind
-        (λ truths. Follows (truth_of terms.now.nodes free.now truths) (claims_at lines.now premises.now) claim.now)
+        (λ truths. Follows (truth_of question.now.terms.now.nodes question.now.free.now truths)
+        (claims_at question.now.lines.now question.now.premises.now) question.now.claim.now)
         chosen.now more) }
 {
     if more == 0 {
-        let follows = follows_under(alloc, terms, free, bound, lines, premises, claim, chosen)?;
+        let follows = follows_under(alloc, question, chosen)?;
         return Ok(follows);
     }
     let with_true = with_one_more(alloc, chosen, true)?;
-    let if_true = follows_always(
-        alloc,
-        terms,
-        free,
-        bound,
-        lines,
-        premises,
-        claim,
-        with_true.as_slice(),
-        more - 1,
-    )?;
+    let if_true = follows_always(alloc, question, with_true.as_slice(), more - 1)?;
     if !if_true {
         return Ok(false);
     }
     let with_false = with_one_more(alloc, chosen, false)?;
-    let if_false = follows_always(
-        alloc,
-        terms,
-        free,
-        bound,
-        lines,
-        premises,
-        claim,
-        with_false.as_slice(),
-        more - 1,
-    )?;
+    let if_false = follows_always(alloc, question, with_false.as_slice(), more - 1)?;
     Ok(if_false)
 }
 
@@ -187,23 +167,19 @@ fn with_one_more(alloc: Global, truths: &[bool], truth: bool) -> Result<List<boo
 }
 
 /// Whether the claim follows under that assignment.
-fn follows_under(
-    alloc: Global,
-    terms: &TermTable,
-    free: &[NodeId],
-    bound: usize,
-    lines: &[Line],
-    premises: &[u32],
-    claim: &Claim,
-    chosen: &[bool],
-) -> Result<bool, Memory>
-    requires premises { All (IsBelowIfAny bound) (claims_at lines.now premises.now) }
-    requires claim { IsBelow bound claim.now }
+fn follows_under(alloc: Global, question: &Question, chosen: &[bool]) -> Result<bool, Memory>
     ensures { IfOk result (λ yes. IsTrue yes ↔
-        Follows (truth_of terms.now.nodes free.now chosen.now) (claims_at lines.now premises.now) claim.now) }
+        Follows (truth_of question.now.terms.now.nodes question.now.free.now chosen.now)
+        (claims_at question.now.lines.now question.now.premises.now) question.now.claim.now) }
 {
-    let known = truths_of(alloc, terms, free, chosen, bound)?;
-    let follows = follows(known.as_slice(), lines, premises, claim);
+    let bound = bound_of(question.lines, question.premises, question.claim);
+    let known = truths_of(alloc, question.terms, question.free, chosen, bound)?;
+    let follows = follows(
+        known.as_slice(),
+        question.lines,
+        question.premises,
+        question.claim,
+    );
     Ok(follows)
 }
 
