@@ -5,3 +5,8 @@ pub mod TableGrowth
 pub mod RuleGrowth
 pub mod BranchGrowth
 pub mod LawLemmas
+pub mod Ancestors
+pub mod Pairs
+pub mod TruthLemmas
+pub mod AssignmentLemmas
+pub mod FollowsLemmas

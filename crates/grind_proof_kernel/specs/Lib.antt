@@ -1,5 +1,6 @@
 pub mod Claims
 pub mod Tables
+pub mod Assignments
 pub mod Rules
 pub mod Typing
 pub mod Judgement

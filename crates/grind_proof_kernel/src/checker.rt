@@ -1,9 +1,12 @@
 //! The checker: which lines are typed, which proofs are, and one more line behind a proof.
-ghost use Rattle.std.specs.Prelude.{IsTrue, ◌↔◌, ◌<◌, ◌≡◌, length, IfOk, OnOk, OnErr};
-ghost use Rattle.grind_proof_kernel.specs.Typing.{HasTerms, TypedLine, appended};
-ghost use Rattle.grind_proof_kernel.specs.Judgement.{IsRight};
+ghost use Rattle.std.specs.Prelude.{IsTrue, ◌↔◌, ◌<◌, ◌≡◌, ◌≤◌, ℕ, length, IfOk, OnOk, OnErr, MatchOption};
+ghost use Rattle.grind_proof_kernel.specs.Typing.{HasTerms, IsTypedAs, TypedLine, IsGoodBranch, appended};
+ghost use Rattle.grind_proof_kernel.specs.Judgement.{HasGoodBranches, IsFirstBadBranch, IsRight};
 
+use crate::branches::{all_serve, is_good_branch, literal_of};
+use crate::claim::is_formed;
 use crate::proof::{Line, Proof};
+use crate::rules::says;
 use grind_outside::Memory;
 use grind_schemes::{Goal, Lemmas};
 use std::alloc::Global;
@@ -30,17 +33,28 @@ pub enum Verdict {
 /// # Errors
 /// `Memory` where memory was wanted and there was none.
 pub fn check_line(
-    _alloc: Global,
-    _lemmas: &Lemmas,
-    _goal: &Goal,
-    _proof: &Proof,
-    _i: u32,
+    alloc: Global,
+    lemmas: &Lemmas,
+    goal: &Goal,
+    proof: &Proof,
+    i: u32,
 ) -> Result<bool, Memory>
-    requires terms { HasTerms _goal.now _proof.now }
-    requires line { _i < length _proof.now.lines }
-    ensures { IfOk result (λ typed. IsTrue typed ↔ TypedLine _lemmas.now _goal.now _proof.now _i) }
+    requires terms { HasTerms goal.now proof.now }
+    requires line { i < length proof.now.lines }
+    ensures { IfOk result (λ typed. IsTrue typed ↔ TypedLine lemmas.now goal.now proof.now i) }
 {
-    Err(Memory)
+    let branches = proof.branches.as_slice();
+    let lines = proof.lines.as_slice();
+    let line = &lines[i as usize];
+    if !is_formed(&proof.terms, &line.claim)
+        || line.branch as usize > branches.len()
+        || !all_serve(branches, lines, i, line.branch, line.premises.as_slice())
+    {
+        return Ok(false);
+    }
+    let literal = literal_of(branches, line.branch);
+    let said = says(alloc, goal, &proof.terms, literal, lines, line)?;
+    Ok(said)
 }
 
 /// Whether the proof is typed for this goal, with these theorems, and else the first bad branch or, where no branch
@@ -48,11 +62,32 @@ pub fn check_line(
 ///
 /// # Errors
 /// `Memory` where memory was wanted and there was none.
-pub fn check(_alloc: Global, lemmas: &Lemmas, goal: &Goal, proof: &Proof) -> Result<Verdict, Memory>
+pub fn check(alloc: Global, lemmas: &Lemmas, goal: &Goal, proof: &Proof) -> Result<Verdict, Memory>
     requires { HasTerms goal.now proof.now }
     ensures { IfOk result (IsRight lemmas.now goal.now proof.now) }
 {
-    Err(Memory)
+    if let Some(first) = first_bad_branch(proof) {
+        return Ok(Verdict::BadBranch { first });
+    }
+    for i in 0..proof.lines.len() as u32 {
+        let typed = check_line(alloc, lemmas, goal, proof, i)?;
+        if !typed {
+            return Ok(Verdict::BadLine { first: i });
+        }
+    }
+    Ok(Verdict::Typed)
+}
+
+/// The first bad branch, where there is one.
+fn first_bad_branch(proof: &Proof) -> Option<u32>
+    ensures { MatchOption result (HasGoodBranches proof.now) (λ first. IsFirstBadBranch proof.now first) }
+{
+    for branch in 0..proof.branches.len() + 1 {
+        if !is_good_branch(proof, branch as u32) {
+            return Some(branch as u32);
+        }
+    }
+    None
 }
 
 /// Puts a line that is typed there behind the proof, and answers its number.

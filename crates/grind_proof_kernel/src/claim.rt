@@ -33,7 +33,8 @@ pub fn is_formed(terms: &TermTable, claim: &Claim) -> bool
     }
 }
 
-fn is_formula(terms: &TermTable, node: NodeId) -> bool
+/// Whether the node is a formula.
+pub(crate) fn is_formula(terms: &TermTable, node: NodeId) -> bool
     ensures { IsTrue result ↔ (sort_at terms.now.nodes node ≡ Some prop) }
 {
     node.number() < terms.len() && terms.sort(node) == SortId::PROP

@@ -1,20 +1,25 @@
-//! The rule `table`.
-ghost use Rattle.std.specs.Prelude.{IsTrue, ◌↔◌, ◌<◌, length, All, IfOk};
-ghost use Rattle.grind_proof_kernel.specs.Claims.{IsFormed, claims_at};
-ghost use Rattle.grind_proof_kernel.specs.Tables.{IsTable};
+//! The rule `table`: what the truth tables of the connectives give, whatever truths the free nodes have.
+ghost use Rattle.std.specs.Prelude.{IsTrue, ◌↔◌, ◌<◌, ◌≤◌, ◌≡◌, ◌≢◌, ℕ, Bool, true, [], ◌∷◌, ◌++◌, All, length, Some, IsSome, IfOk, slice_index_or};
+ghost use Rattle.std.specs.List.{AllPairs};
+ghost use Rattle.grind_term_graph.specs.Terms.{prop, sort_at};
+ghost use Rattle.grind_proof_kernel.specs.Assignments.{HoldsBehind, IsBelow, IsBelowIfAny};
+ghost use Rattle.grind_proof_kernel.specs.Claims.{IsFormed, claim_at, claims_at};
+ghost use Rattle.grind_proof_kernel.specs.Tables.{truth_at, truth_of, premise_truth, Follows, IsTable};
 
-use crate::claim::Claim;
+use crate::claim::{Claim, is_formula};
 use crate::proof::Line;
-use grind_outside::Memory;
+use crate::truths::{conclusion_truth, premise_truth, truths_of};
+use grind_outside::{List, Memory};
 use grind_term_graph::{NodeId, TermTable};
 use std::alloc::Global;
 
-/// table: what the truth tables of the connectives give.
+/// Whether the rule `table` lets a line claim this, from these free nodes. The claim is well formed, and the premises
+/// are lines.
 ///
 /// # Errors
 /// `Memory` where memory was wanted and there was none.
 pub fn is_table(
-    _alloc: Global,
+    alloc: Global,
     terms: &TermTable,
     free: &[NodeId],
     lines: &[Line],
@@ -23,8 +28,186 @@ pub fn is_table(
 ) -> Result<bool, Memory>
     requires formed { IsFormed terms.now.nodes claim.now }
     requires premises { All (λ p. p < length lines.now) premises.now }
-    ensures { IfOk result (λ yes. IsTrue yes ↔ IsTable terms.now.nodes free.now
-        (claims_at lines.now premises.now) claim.now) }
+    ensures { IfOk result (λ yes. IsTrue yes ↔ IsTable terms.now.nodes free.now (claims_at lines.now premises.now) claim.now) }
 {
-    Err(Memory)
+    if free.len() > 6 || !are_different(free) || !are_formulas(terms, free) {
+        return Ok(false);
+    }
+    let question = Question {
+        terms,
+        free,
+        lines,
+        premises,
+        claim,
+    };
+    let always = follows_always(alloc, &question, &[], free.len())?;
+    Ok(always)
+}
+
+/// What the rule is asked: whether the claim follows from the premises, whatever truths the free nodes have.
+#[derive(Drop)]
+struct Question<'a> {
+    terms: &'a TermTable,
+    free: &'a [NodeId],
+    lines: &'a [Line],
+    premises: &'a [u32],
+    claim: &'a Claim,
+}
+
+/// Whether no node stands in the list twice.
+fn are_different(nodes: &[NodeId]) -> bool
+    ensures { IsTrue result ↔ AllPairs (λ a b. a ≢ b) nodes.now }
+{
+    for j in 0..nodes.len() {
+        if !is_first_there(nodes, j) {
+            return false;
+        }
+    }
+    true
+}
+
+/// Whether the node at that place does not stand before it.
+fn is_first_there(nodes: &[NodeId], j: usize) -> bool
+    requires { j < length nodes.now }
+    ensures { IsTrue result ↔ ((i d : ℕ) → i < j → slice_index_or nodes.now i d ≢ slice_index_or nodes.now j d) }
+{
+    for i in 0..j {
+        if nodes[i] == nodes[j] {
+            return false;
+        }
+    }
+    true
+}
+
+/// Whether each node is a formula.
+fn are_formulas(terms: &TermTable, nodes: &[NodeId]) -> bool
+    ensures { IsTrue result ↔ All (λ n. sort_at terms.now.nodes n ≡ Some prop) nodes.now }
+{
+    nodes.iter().all(|node| is_formula(terms, *node))
+}
+
+/// A number above those of the formulas of the premises and the claim.
+fn bound_of(lines: &[Line], premises: &[u32], claim: &Claim) -> usize
+    ensures premises { All (IsBelowIfAny result) (claims_at lines.now premises.now) }
+    ensures claim { IsBelow result claim.now }
+{
+    let mut bound = bound_of_claim(claim, 0);
+    for premise in premises {
+        bound = raised(lines, *premise, bound);
+    }
+    bound
+}
+
+/// The bound, raised above the number of the formula of what line `premise` claims.
+fn raised(lines: &[Line], premise: u32, bound: usize) -> usize
+    ensures low { bound ≤ result }
+    ensures above { IsBelowIfAny result (claim_at lines.now premise) }
+{
+    let Some(line) = lines.get(premise as usize) else {
+        return bound;
+    };
+    bound_of_claim(&line.claim, bound)
+}
+
+/// The bound, raised above the number of the formula of a literal.
+fn bound_of_claim(claim: &Claim, bound: usize) -> usize
+    ensures low { bound ≤ result }
+    ensures above { IsBelow result claim.now }
+{
+    match claim {
+        Claim::Holds(node) => above_node(*node, bound),
+        Claim::Fails(node) => above_node(*node, bound),
+        Claim::Same(_, _) | Claim::Differ(_, _) | Claim::Absurd => bound,
+    }
+}
+
+/// The bound, raised above the number of a node.
+fn above_node(node: NodeId, bound: usize) -> usize
+    ensures low { bound ≤ result }
+    ensures above { node < result }
+{
+    let number = node.number() as usize;
+    if number < bound { bound } else { number + 1 }
+}
+
+/// Whether the claim follows under each assignment that begins with the chosen truths and has so many more.
+fn follows_always(
+    alloc: Global,
+    question: &Question,
+    chosen: &[bool],
+    more: usize,
+) -> Result<bool, Memory>
+    ensures { IfOk result (λ yes. IsTrue yes ↔ HoldsBehind
+        (λ truths. Follows (truth_of question.now.terms.now.nodes question.now.free.now truths)
+        (claims_at question.now.lines.now question.now.premises.now) question.now.claim.now)
+        chosen.now more) }
+{
+    if more == 0 {
+        let follows = follows_under(alloc, question, chosen)?;
+        return Ok(follows);
+    }
+    let with_true = with_one_more(alloc, chosen, true)?;
+    let if_true = follows_always(alloc, question, with_true.as_slice(), more - 1)?;
+    if !if_true {
+        return Ok(false);
+    }
+    let with_false = with_one_more(alloc, chosen, false)?;
+    let if_false = follows_always(alloc, question, with_false.as_slice(), more - 1)?;
+    Ok(if_false)
+}
+
+/// The truths, and one more behind them.
+fn with_one_more(alloc: Global, truths: &[bool], truth: bool) -> Result<List<bool>, Memory>
+    ensures { IfOk result (λ longer. longer ≡ truths.now ++ truth ∷ []) }
+{
+    let mut longer = List::new(alloc);
+    longer.extend(truths)?;
+    longer.push(truth)?;
+    Ok(longer)
+}
+
+/// Whether the claim follows under that assignment.
+fn follows_under(alloc: Global, question: &Question, chosen: &[bool]) -> Result<bool, Memory>
+    ensures { IfOk result (λ yes. IsTrue yes ↔
+        Follows (truth_of question.now.terms.now.nodes question.now.free.now chosen.now)
+        (claims_at question.now.lines.now question.now.premises.now) question.now.claim.now) }
+{
+    let bound = bound_of(question.lines, question.premises, question.claim);
+    let known = truths_of(alloc, question.terms, question.free, chosen, bound)?;
+    let follows = follows(
+        known.as_slice(),
+        question.lines,
+        question.premises,
+        question.claim,
+    );
+    Ok(follows)
+}
+
+/// Whether the premises and the claim have truths, and the claim is true where all premises are.
+fn follows(known: &[Option<bool>], lines: &[Line], premises: &[u32], claim: &Claim) -> bool
+    ensures { IsTrue result ↔ Follows (truth_at known.now) (claims_at lines.now premises.now) claim.now }
+{
+    let Some(concluded) = conclusion_truth(known, claim) else {
+        return false;
+    };
+    if !are_expressed(known, lines, premises) {
+        return false;
+    }
+    concluded || !all_hold(known, lines, premises)
+}
+
+/// Whether each premise has a truth.
+fn are_expressed(known: &[Option<bool>], lines: &[Line], premises: &[u32]) -> bool
+    ensures { IsTrue result ↔ All (λ premise. IsSome (premise_truth (truth_at known.now) (claim_at lines.now premise))) premises.now }
+{
+    premises
+        .iter()
+        .all(|premise| premise_truth(known, lines, *premise).is_some())
+}
+
+/// Whether each premise is true.
+fn all_hold(known: &[Option<bool>], lines: &[Line], premises: &[u32]) -> bool
+    ensures { IsTrue result ↔ All (λ premise. premise_truth (truth_at known.now) (claim_at lines.now premise) ≡ Some true) premises.now }
+{
+    premises.iter().all(|premise| premise_truth(known, lines, *premise) == Some(true))
 }
