@@ -1,0 +1,42 @@
+use Rattle.std.proofs.Common.{arith, refl}
+use Rattle.grind_value_tables.specs.Overflows.{value_of}
+use Rattle.grind_value_tables.proofs.Keeping.{overflows_here, asks_of, broken_by, stopped_by, all_keep, all_fit}
+use Rattle.grind_value_tables.proofs.respecting.respects.Goals as goal
+
+pub returns-in_err-keeps_at-clause-overflow : goal.returns-in_err-keeps_at-clause-overflow
+returns-in_err-keeps_at-clause-overflow c = (
+  λ _. overflows_here c.args.terms.now.nodes (value_of c.args.values.now.list) c.loop-number.number c.loop-number.invariant
+      (asks_of c.args.terms.now.nodes c.as_slice-list.result.now c.args.values.now.list c.loop-number.number
+      c.as_slice-list.ensures.value (c.in_err-keeps_at.ensures.overflow.0 refl)),
+  λ _. c.from_residual.ensures.0,
+)
+
+pub returns-then-not-branch-clause-exact : goal.returns-then-not-branch-clause-exact
+returns-then-not-branch-clause-exact c = (
+  λ no. absurd (cc),
+  λ respects. absurd (broken_by c.args.terms.now.nodes c.as_slice-list.result.now c.args.values.now.list c.loop-number.number
+      c.in_ok-keeps_at.field-0 c.as_slice-list.ensures.value (omega arith) c.if-not-branch.true c.in_ok-keeps_at.ensures.exact
+      respects),
+)
+
+pub returns-then-not-branch-clause-overflow : goal.returns-then-not-branch-clause-overflow
+returns-then-not-branch-clause-overflow c = (
+  λ no. absurd (cc),
+  λ over. absurd (stopped_by c.args.terms.now.nodes c.as_slice-list.result.now c.args.values.now.list c.loop-number.number
+      c.in_ok-keeps_at.field-0 c.as_slice-list.ensures.value (omega arith) c.loop-number.invariant c.if-not-branch.true
+      c.in_ok-keeps_at.ensures.exact c.in_ok-keeps_at.ensures.overflow over),
+)
+
+pub returns-clause-exact : goal.returns-clause-exact
+returns-clause-exact c = (
+  λ _. all_keep c.args.terms.now.nodes (value_of c.args.values.now.list) c.loop-number.number (omega arith)
+      c.loop-number.invariant,
+  λ _. refl,
+)
+
+pub returns-clause-overflow : goal.returns-clause-overflow
+returns-clause-overflow c = (
+  λ no. absurd (cc),
+  λ over. absurd (all_fit c.args.terms.now.nodes (value_of c.args.values.now.list) c.loop-number.number (omega arith)
+      c.loop-number.invariant over),
+)
