@@ -1,0 +1,94 @@
+-- Worked cases: for some rules a line that the rule allows, and one that it refuses.
+use Rattle.std.specs.Prelude.{◌≡◌, Bool, true, false, List, [], ◌∷◌, ◌++◌, ◌⊎◌, length, Option, Some, refl}
+use Rattle.std.proofs.Common.{lit≤, inl, inr, arith}
+use Rattle.std.proofs.lemmas.List.Elements.{All-nil, All-cons}
+use Rattle.grind_term_graph.specs.declared.head.Head.TheVariants as head
+use Rattle.grind_term_graph.specs.declared.node.Node.{Node}
+use Rattle.grind_term_graph.specs.Terms.{prop, int, opening, sort_at}
+use Rattle.grind_schemes.specs.Goals.{GoalData, goal_data}
+use Rattle.grind_proof_kernel.specs.declared.claim.Claim.{Claim}
+use Rattle.grind_proof_kernel.specs.declared.claim.Claim.TheVariants.{Holds, Fails, Same, Differ, Absurd}
+use Rattle.grind_proof_kernel.specs.Tables.{truth_of, Follows, IsTable}
+use Rattle.grind_proof_kernel.specs.Rules.{IsHyp, IsTrans, IsCong, IsClash, IsApart, AreOpposed, AreSplit}
+
+-- True, False, two numbers a and b (2 and 3), f(a) and f(b) (4 and 5), and a formula p, its negation and p or not p (6, 7 and 8)
+abbrev nodes : List Node
+nodes = opening ++ record { head = head.Const 0; sort = int; args = [] }
+    ∷ record { head = head.Const 1; sort = int; args = [] }
+    ∷ record { head = head.Fun 0; sort = int; args = 2 ∷ [] }
+    ∷ record { head = head.Fun 0; sort = int; args = 3 ∷ [] }
+    ∷ record { head = head.Const 2; sort = prop; args = [] }
+    ∷ record { head = head.Not; sort = prop; args = 6 ∷ [] }
+    ∷ record { head = head.Or; sort = prop; args = 6 ∷ 7 ∷ [] } ∷ []
+
+-- a goal of one hypothesis, p
+abbrev of_one : GoalData
+of_one = goal_data [] [] (record { nodes = nodes; limit = 100 }) (6 ∷ []) 8
+
+-- its hypothesis is the first
+pub hyp_counts_from_one : IsHyp of_one 1 [] (Holds 6)
+hyp_counts_from_one = (0, 6, refl, refl, refl, refl)
+
+pub hyp_has_no_zero : (goal : GoalData) (claim : Claim) → IsHyp goal 0 [] claim → ⊥
+hyp_has_no_zero goal claim h = absurd (omega (arith, h.2))
+
+-- equalities make one where they meet
+pub trans_meets : IsTrans (Some (Same 2 3) ∷ Some (Same 3 4) ∷ []) (Same 2 4)
+trans_meets = (2, 3, 4, refl, refl)
+
+pub trans_does_not_meet : IsTrans (Some (Same 2 3) ∷ Some (Same 5 4) ∷ []) (Same 2 4) → ⊥
+trans_does_not_meet h =
+    absurd cc
+
+-- equal arguments give equal terms
+pub cong_of_one : IsCong nodes (Some (Same 2 3) ∷ []) (Same 4 5)
+cong_of_one = (4, 5, _, _, refl, refl, refl, refl, refl, (λ e. absurd cc), (refl, tt))
+
+-- no rule of congruence is without premises
+pub cong_of_none : IsCong nodes [] (Same 2 2) → ⊥
+cong_of_none h = h.9 refl
+
+-- a formula that fails and holds, in either order
+pub clash_is_exchanged : IsClash nodes (Some (Fails 6) ∷ Some (Holds 6) ∷ []) Absurd
+clash_is_exchanged = (refl, inl (Some (Holds 6), Some (Fails 6), inr refl, inl (6, refl, refl)))
+
+-- two formulas do not clash
+opposed_not : (one other : Option Claim) →
+    ((Some (Holds 6) ∷ Some (Fails 7) ∷ [] ≡ one ∷ other ∷ []) ⊎ (Some (Holds 6) ∷ Some (Fails 7) ∷ [] ≡ other ∷ one ∷ [])) →
+    (AreOpposed one other ⊎ AreSplit one other) → ⊥
+opposed_not one other (inl e) (inl h) = absurd cc
+opposed_not one other (inl e) (inr h) = absurd cc
+opposed_not one other (inr e) (inl h) = absurd cc
+opposed_not one other (inr e) (inr h) = absurd cc
+
+pub clash_of_two_formulas : IsClash nodes (Some (Holds 6) ∷ Some (Fails 7) ∷ []) Absurd → ⊥
+clash_of_two_formulas h = elim h.1 [
+  | inl two ↦ opposed_not two.0 two.1 two.2 two.3
+  | inr lone ↦ absurd cc
+]
+
+-- the difference stands before the equalities
+pub apart_from_both : IsApart (Some (Differ 2 3) ∷ Some (Same 4 2) ∷ Some (Same 5 3) ∷ []) (Differ 5 4)
+apart_from_both = (4, 5, 2, 3, refl, inr refl)
+
+pub apart_the_other_way : IsApart (Some (Same 4 2) ∷ Some (Differ 2 3) ∷ Some (Same 5 3) ∷ []) (Differ 4 5) → ⊥
+apart_the_other_way h = absurd cc
+
+-- p or not p, whatever p is
+either_way : (truths : List Bool) → length truths ≡ 1 → Follows (truth_of nodes (6 ∷ []) truths) [] (Holds 8)
+either_way [] count = absurd cc
+either_way (true ∷ []) count = record { expressed = λ k d within. absurd (omega arith); concluded = refl; follows = λ all. refl }
+either_way (false ∷ []) count = record { expressed = λ k d within. absurd (omega arith); concluded = refl; follows = λ all. refl }
+either_way (a ∷ b ∷ rest) count = absurd cc
+
+pub table_of_either_way : IsTable nodes (6 ∷ []) [] (Holds 8)
+table_of_either_way = record {
+  few = lit≤ tt;
+  different = λ i j d before within. absurd (omega arith);
+  formulas = All-cons (λ n. sort_at nodes n ≡ Some prop) 6 [] refl (All-nil (λ n. sort_at nodes n ≡ Some prop));
+  always = either_way;
+}
+
+-- from p alone nothing follows of f(a), which the free formula p does not express
+pub table_of_a_number : IsTable nodes (6 ∷ []) (Some (Holds 6) ∷ []) (Holds 4) → ⊥
+table_of_a_number h = let concluded = (h.always (true ∷ []) refl).concluded in absurd cc
