@@ -5,3 +5,4 @@ pub mod Rules
 pub mod Typing
 pub mod Judgement
 pub mod Laws
+pub mod TypingCases
