@@ -6,3 +6,4 @@ pub mod Typing
 pub mod Judgement
 pub mod Laws
 pub mod RuleCases
+pub mod TypingCases
