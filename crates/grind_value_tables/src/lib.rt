@@ -6,6 +6,7 @@
 pub mod claims;
 pub mod functions;
 pub mod heads;
+pub mod laws;
 pub mod respecting;
 pub mod values;
 
