@@ -97,8 +97,8 @@ module _ (v : ℕ → ℤ) (premises : List (Option Claim)) (claim : Claim) (hol
       let shaped = (WellShaped-at [] nodes rule.0 rule.2 table rule.5).1 in
       let here = means_of nodes v respects rule.0 rule.2 rule.2.head rule.2.args rule.5 refl refl in
       let there : Means rule.2.head (map v rule.2.args) (v rule.1) =
-          subst (λ xs. Means rule.2.head xs (v rule.1)) (sym equal)
-          (means_of nodes v respects rule.1 rule.3 rule.2.head rule.3.args rule.6 (sym rule.7) refl) in
+      subst (λ xs. Means rule.2.head xs (v rule.1)) (sym equal)
+      (means_of nodes v respects rule.1 rule.3 rule.2.head rule.3.args rule.6 (sym rule.7) refl) in
       claim_is v claim (Same rule.0 rule.1) rule.4
       (by_head rule.2.head rule.2.sort (map (sort_at (take rule.0 nodes)) rule.2.args) (map v rule.2.args) (v rule.0) (v rule.1)
       shaped (respects.formulas rule.0 rule.2 rule.5) (λ e. respects.formulas rule.1 rule.3 rule.6 (sym rule.8 ∙ e)) here there

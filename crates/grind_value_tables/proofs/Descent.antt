@@ -115,7 +115,7 @@ module _ (nodes : List Node) (branches : List Branch) (lines : List Line) (k : �
     | inr h ↦
         let same : pair.0 ≡ k = halves pair.0 k (omega arith) in
         let at : branch_at branches (pair.0 + pair.0 + 1) ≡ Some first =
-            subst (λ j. branch_at branches (j + j + 1) ≡ Some first) (sym same) is in
+        subst (λ j. branch_at branches (j + j + 1) ≡ Some first) (sym same) is in
         IsSomeAnd-at (branch_at branches (pair.0 + pair.0 + 1)) (λ (one_branch : Branch). IsSecond one_branch it) first at h.1
   ]
 
@@ -126,7 +126,7 @@ module _ (lemmas : Lemmas) (goal : GoalData) (proof : Proof) (v : ℕ → ℤ) (
       → AssumesTruth v proof.branches parent → ClaimTrue v it.literal → AssumesTruth v proof.branches branch
   assumes_listed branch parent it at is assumes own =
       let up : parent_of proof.branches branch ≡ Some parent =
-          ap (option_map (λ (b : Branch). b.parent)) at ∙ ap Some is in
+      ap (option_map (λ (b : Branch). b.parent)) at ∙ ap Some is in
       assumes_child proof.branches v branch parent up assumes
       (λ literal e.
       let said : Some it.literal ≡ Some literal = sym (ap (option_map (λ (b : Branch). b.literal)) at) ∙ e in
@@ -143,7 +143,7 @@ module _ (lemmas : Lemmas) (goal : GoalData) (proof : Proof) (v : ℕ → ℤ) (
       let first = first_of_pair proof.terms.nodes proof.branches proof.lines k one_at.0 one_at.2.pair in
       let second = second_of_pair proof.terms.nodes proof.branches proof.lines k one_at.0 two_at.0 one_at.1 two_at.2.pair in
       let up : one_at.0.parent ≡ branch = same_Some one_at.0.parent branch
-          (sym (ap (option_map (λ (b : Branch). b.parent)) one_at.1) ∙ parent.1.1) in
+      (sym (ap (option_map (λ (b : Branch). b.parent)) one_at.1) ∙ parent.1.1) in
       elim (one_is_true proof.terms.nodes v values.respects one_at.0.literal two_at.0.literal first.literal first.formed
       second.literal) [
         | inl own ↦ none_above (k + k + 1) (omega (arith, first.above, up)) (omega (arith, parent.1.0))
@@ -175,8 +175,8 @@ sort_of_longer (node ∷ nodes) more (suc n) sort e = sort_of_longer nodes more 
 pub typed_proofs : TypedIsTrue
 typed_proofs lemmas goal proof v is_goal values typed hyps =
     let sort : sort_at proof.terms.nodes goal.show ≡ Some prop =
-        subst (λ ns. sort_at ns goal.show ≡ Some prop) (sym values.begins.1)
-        (sort_of_longer goal.terms.nodes values.begins.0 goal.show prop is_goal.show) in
+    subst (λ ns. sort_at ns goal.show ≡ Some prop) (sym values.begins.1)
+    (sort_of_longer goal.terms.nodes values.begins.0 goal.show prop is_goal.show) in
     elim (formula_value proof.terms.nodes v values.respects goal.show sort) [
       | inl show ↦ absurd (no_false_conclusion lemmas goal proof v values hyps show typed)
       | inr show ↦ show

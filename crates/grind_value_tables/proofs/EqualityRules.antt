@@ -17,8 +17,8 @@ module _ (goal : GoalData) (v : ℕ → ℤ) (premises : List (Option Claim)) (c
   pub hyp_sound : (i : ℕ) → AreTrue v goal.hyps → IsHyp goal i premises claim → ClaimTrue v claim
   hyp_sound i hyps rule =
       let holds : v rule.1 ≡ one =
-          subst (λ n. v n ≡ one) (get_or_from_slice_get goal.hyps rule.0 rule.1 rule.1 rule.3)
-          (hyps rule.0 rule.1 (slice_get_within goal.hyps rule.0 rule.1 rule.3)) in
+      subst (λ n. v n ≡ one) (get_or_from_slice_get goal.hyps rule.0 rule.1 rule.1 rule.3)
+      (hyps rule.0 rule.1 (slice_get_within goal.hyps rule.0 rule.1 rule.3)) in
       claim_is v claim (Holds rule.1) rule.5 holds
 
   pub negated_sound : v goal.show ≡ zero_value → IsNegated goal premises claim → ClaimTrue v claim
@@ -45,7 +45,7 @@ module _ (v : ℕ → ℤ) (premises : List (Option Claim)) (claim : Claim) (hol
   pub apart_sound : IsApart premises claim → ClaimTrue v claim
   apart_sound rule =
       let h = premises_are v premises
-          (Some (Differ rule.2 rule.3) ∷ Some (Same rule.0 rule.2) ∷ Some (Same rule.1 rule.3) ∷ []) rule.4 hold in
+      (Some (Differ rule.2 rule.3) ∷ Some (Same rule.0 rule.2) ∷ Some (Same rule.1 rule.3) ∷ []) rule.4 hold in
       elim rule.5 [
         | inl e ↦ claim_is v claim (Differ rule.0 rule.1) e (λ equal. h.0 (sym h.1.0 ∙ equal ∙ h.1.1.0))
         | inr e ↦ claim_is v claim (Differ rule.1 rule.0) e (λ equal. h.0 (sym h.1.0 ∙ sym equal ∙ h.1.1.0))

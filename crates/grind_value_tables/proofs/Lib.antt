@@ -1,5 +1,5 @@
 pub mod Fronts
-pub mod Keeping
+pub mod KeptNodes
 pub mod Meanings
 pub mod EqualityRules
 pub mod CongRule

@@ -82,7 +82,7 @@ module _ (lemmas : Lemmas) (goal : GoalData) (proof : Proof) (v : ℕ → ℤ) (
   sound_below zero i line below is assumes = absurd (omega arith)
   sound_below (suc count) i line below is assumes =
       let it = IsSomeAnd-at (slice_get proof.lines i) (IsTypedAs lemmas goal proof i) line is
-          (typed i (slice_get_within proof.lines i line is)) in
+      (typed i (slice_get_within proof.lines i line is)) in
       says_sound goal proof.terms.nodes proof.terms.limit v values.table values.respects hyps show line.rule
       (literal_of proof.branches line.branch) (claims_at proof.lines line.premises) line.claim it.claim
       (λ literal e. assumes 0 line.branch literal refl e)

@@ -272,7 +272,7 @@ module _ (v : ℕ → ℤ) (premises : List (Option Claim)) (claim : Claim) (hol
   table_sound free rule =
       let truths = values_as_truths v free in
       let values : All (λ f. IsTruthValue (v f)) free =
-          λ k d below. formula_value nodes v respects (slice_index_or free k d) (rule.formulas k d below) in
+      λ k d below. formula_value nodes v respects (slice_index_or free k d) (rule.formulas k d below) in
       let agree = truths_agree v free values [] nodes (λ n truth e. absurd (none-some truth e)) valued_at in
       let follows = rule.always truths (length-map free (λ n. int_eq (v n) one)) in
       conclusion_true v (truth_of nodes free truths) agree claim
