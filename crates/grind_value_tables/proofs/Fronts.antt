@@ -65,6 +65,6 @@ module _ (value : ℕ → ℤ) (limit : ℕ) where
     (
       λ e. let both : map value rest ≡ map value others =
           ap (map value) r ∙ consed (value a) (value b) (map value more) (map value further) equal e ∙ sym (ap (map value) o) in same.0 both,
-      λ p. unconsed (value a) (value b) (map value more) (map value further) (sym (ap (map value) r) ∙ same.1 p ∙ ap (map value) o)
+      λ p. unconsed (value a) (value b) (map value more) (map value further) (sym (ap (map value) r) ∙ same.1 p ∙ ap (map value) o),
     ),
   )

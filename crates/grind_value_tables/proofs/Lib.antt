@@ -1,2 +1,9 @@
 pub mod Fronts
-pub mod Keeping
+pub mod KeptNodes
+pub mod Meanings
+pub mod EqualityRules
+pub mod CongRule
+pub mod TableRule
+pub mod Ancestors
+pub mod SoundLines
+pub mod Descent

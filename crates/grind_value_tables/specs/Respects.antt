@@ -19,16 +19,16 @@ IsTruthValue value = (value ≡ zero_value) ⊎ (value ≡ one)
 
 -- there is one value, and this holds of it
 abbrev pub OfOne : (ℤ → Type 0) → List ℤ → Type 0
-OfOne Holds [] = ⊥
-OfOne Holds (a ∷ []) = Holds a
-OfOne Holds (a ∷ b ∷ rest) = ⊥
+OfOne P [] = ⊥
+OfOne P (a ∷ []) = P a
+OfOne P (a ∷ b ∷ rest) = ⊥
 
 -- there are two values, and this holds of them
 abbrev pub OfTwo : (ℤ → ℤ → Type 0) → List ℤ → Type 0
-OfTwo Holds [] = ⊥
-OfTwo Holds (a ∷ []) = ⊥
-OfTwo Holds (a ∷ b ∷ []) = Holds a b
-OfTwo Holds (a ∷ b ∷ c ∷ rest) = ⊥
+OfTwo P [] = ⊥
+OfTwo P (a ∷ []) = ⊥
+OfTwo P (a ∷ b ∷ []) = P a b
+OfTwo P (a ∷ b ∷ c ∷ rest) = ⊥
 
 -- a term of this head, with arguments of these values, may have this value: connectives by their truth tables, equality and
 -- order where they hold of the values, and arithmetic as it is. What a function or a constant is the head alone does not say.

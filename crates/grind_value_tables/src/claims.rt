@@ -1,11 +1,10 @@
 //! Which claims a table of values makes true.
-ghost use Rattle.std.specs.Prelude.{IsTrue, ◌↔◌, ◌<◌, ◌≡◌, length, IfOk, IsOk};
+ghost use Rattle.std.specs.Prelude.{IsTrue, ◌↔◌, length, IfOk, IsOk};
 ghost use Rattle.grind_value_tables.specs.Overflows.{value_of};
 ghost use Rattle.grind_value_tables.specs.Truths.{ClaimTrue, IsWithin};
 
-use crate::values::{Overflow, Values};
+use crate::values::{Overflow, Values, value};
 use grind_proof_kernel::Claim;
-use grind_term_graph::NodeId;
 
 /// Whether the claim is true at these values. Its nodes have values. No claim asks for arithmetic, so none is refused.
 ///
@@ -24,12 +23,4 @@ pub fn claim_true(claim: &Claim, values: &Values) -> Result<bool, Overflow>
         Claim::Differ(left, right) => Ok(value(list, *left) != value(list, *right)),
         Claim::Absurd => Ok(false),
     }
-}
-
-/// The value of a node.
-pub fn value(list: &[i128], node: NodeId) -> i128
-    requires { node < length list.now }
-    ensures { result ≡ value_of list.now node }
-{
-    list[node.number() as usize]
 }

@@ -4,12 +4,12 @@ ghost use Rattle.grind_value_tables.specs.Respects.{AreOneApplication};
 ghost use Rattle.grind_value_tables.specs.Overflows.{value_of};
 ghost use Rattle.grind_value_tables.specs.NodeByNode.{AgreesAt, AgreesBefore, AreOneFunction};
 
-use crate::claims::value;
+use crate::values::value;
 use grind_term_graph::{Head, Node, NodeId, TermTable};
 
 /// Whether each earlier application of the function of node `number` to the same values has the value of that node.
 /// Where its head is no function there is nothing to compare.
-pub fn agrees_before(terms: &TermTable, list: &[i128], number: u32, node: &Node) -> bool
+pub(crate) fn agrees_before(terms: &TermTable, list: &[i128], number: u32, node: &Node) -> bool
     requires stands { slice_get terms.now.nodes number ≡ Some node.now }
     requires within { number < length terms.now.nodes }
     requires values { length list.now ≡ length terms.now.nodes }

@@ -5,15 +5,19 @@ ghost use Rattle.grind_value_tables.specs.Respects.{Means};
 ghost use Rattle.grind_value_tables.specs.Overflows.{value_of, AsksTooMuch};
 ghost use Rattle.grind_value_tables.specs.Readings.{one_of, two_of};
 
-use crate::claims::value;
-use crate::values::Overflow;
+use crate::values::{Overflow, value};
 use grind_term_graph::{Head, NodeId};
 
 /// Whether a term of this head with these arguments may have this value.
 ///
 /// # Errors
 /// `Overflow` exactly where the head asks for a sum, a product or a negation that does not fit in 128 bits.
-pub fn means(head: Head, args: &[NodeId], list: &[i128], given: i128) -> Result<bool, Overflow>
+pub(crate) fn means(
+    head: Head,
+    args: &[NodeId],
+    list: &[i128],
+    given: i128,
+) -> Result<bool, Overflow>
     requires { All (λ arg. arg < length list.now) args.now }
     ensures exact { IfOk result (λ holds. IsTrue holds ↔ Means head (map (value_of list.now) args.now) given) }
     ensures overflow { IsErr result ↔ AsksTooMuch head (map (value_of list.now) args.now) }

@@ -4,11 +4,16 @@
 #![tactic(auto)]
 
 pub mod claims;
-pub mod functions;
-pub mod heads;
+mod functions;
+mod heads;
+mod keeping;
+pub mod laws;
 pub mod respecting;
 pub mod values;
 
 pub use claims::claim_true;
 pub use respecting::respects;
 pub use values::{Overflow, Values};
+
+#[cfg(test)]
+mod tests;

@@ -1,6 +1,6 @@
 use Rattle.std.proofs.Common.{arith, refl}
 use Rattle.grind_value_tables.specs.Overflows.{value_of}
-use Rattle.grind_value_tables.proofs.Keeping.{overflows_here, asks_of, broken_by, stopped_by, all_keep, all_fit}
+use Rattle.grind_value_tables.proofs.KeptNodes.{overflows_here, asks_of, broken_by, stopped_by, all_keep, all_fit}
 use Rattle.grind_value_tables.proofs.respecting.respects.Goals as goal
 
 pub returns-in_err-keeps_at-clause-overflow : goal.returns-in_err-keeps_at-clause-overflow

@@ -1,5 +1,5 @@
 use Rattle.grind_value_tables.specs.Overflows.{value_of}
-use Rattle.grind_value_tables.proofs.Keeping.{Underway}
+use Rattle.grind_value_tables.proofs.KeptNodes.{Underway}
 use Rattle.grind_value_tables.proofs.respecting.respects.Given as goal
 
 abbrev pub invariant-loop-number : goal.invariant-loop-number

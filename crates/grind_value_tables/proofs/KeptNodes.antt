@@ -135,7 +135,7 @@ module _ (nodes : List Node) (v : ℕ → ℤ) where
       let stands : slice_get nodes n ≡ Some node = subst (λ m. slice_get nodes m ≡ Some node) e is in
       let value : given ≡ v n = same_value ∙ ap v f in
       let means : Means node.head (map v node.args) (v n) =
-          subst (λ xs. Means node.head (map v xs) (v n)) same_args (subst (λ z. Means node.head (map v args) z) value head) in
+      subst (λ xs. Means node.head (map v xs) (v n)) same_args (subst (λ z. Means node.head (map v args) z) value head) in
       let suits : node.sort ≡ prop → IsTruthValue (v n) = subst (λ z. node.sort ≡ prop → IsTruthValue z) value formula in (
         λ yes. keeps_from n node stands record { head = means; formula = suits; agrees = agrees.0 yes },
         λ keeps. agrees.1 (keeps_parts n node stands keeps).agrees,

@@ -2,8 +2,8 @@ use Rattle.std.proofs.Common.{rules, FitsSigned}
 use Rattle.std.proofs.lemmas.Int.{to_z-of_z}
 use Rattle.std.specs.Int.{w128}
 use Rattle.grind_value_tables.specs.Overflows.{value_of}
-use Rattle.grind_value_tables.proofs.Keeping.{keeps_iff}
-use Rattle.grind_value_tables.proofs.respecting.keeps_at.Goals as goal
+use Rattle.grind_value_tables.proofs.KeptNodes.{keeps_iff}
+use Rattle.grind_value_tables.proofs.keeping.keeps_at.Goals as goal
 
 pub returns-clause-exact : goal.returns-clause-exact
 returns-clause-exact c =
