@@ -1,7 +1,6 @@
 pub mod FunctionNames
 pub mod NamedNodes
 pub mod OneSpelling
-pub mod PartWords
 pub mod PrintedLines
 pub mod ReportParts
 pub mod SolidWords
