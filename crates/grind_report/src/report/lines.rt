@@ -8,12 +8,7 @@ use grind_proof_kernel::{Branch, Claim, Line};
 use grind_term_graph::NodeId;
 
 /// A word, and two nodes behind it.
-fn put_two(
-    out: &mut List<u8>,
-    word: &[u8],
-    left: NodeId,
-    right: NodeId,
-) -> Result<(), Memory>
+fn put_two(out: &mut List<u8>, word: &[u8], left: NodeId, right: NodeId) -> Result<(), Memory>
     ensures text { OnOk result (out.new
         ≡ out.old ++ spaced (word.now ∷ decimal left ∷ decimal right ∷ [])) }
     ensures left { OnOk result (IsShort left) }

@@ -37,13 +37,13 @@ pub fn put_number(out: &mut List<u8>, number: u32) -> Result<(), Memory>
 }
 
 /// A signed number behind a space.
-pub fn put_integer(out: &mut List<u8>, number: i128) -> Result<(), Memory>
-    ensures text { OnOk result (out.new ≡ out.old ++ spaced (signed_decimal number ∷ [])) }
-    ensures fits { FitsSigned w128 number }
+pub fn put_integer(out: &mut List<u8>, value: i128) -> Result<(), Memory>
+    ensures text { OnOk result (out.new ≡ out.old ++ spaced (signed_decimal value ∷ [])) }
+    ensures fits { FitsSigned w128 value }
 {
     let mut buffer = Buffer::new();
     out.push(b' ')?;
-    out.extend(buffer.format(number).as_bytes())?;
+    out.extend(buffer.format(value).as_bytes())?;
     Ok(())
 }
 
