@@ -1,19 +1,22 @@
 -- A report that fits is read back from its lines.
-use Rattle.std.proofs.Common.{◌≡◌, ℕ, ◌+◌, ◌<◌, cond, List, [], ◌∷◌, ◌++◌, length, map, All, decimal, refl, sym, subst, ap, ◌∙◌, append_assoc, arith}
-use Rattle.std.specs.Prelude.{codes, bytes_eq}
+use Rattle.std.proofs.Common.{◌≡◌, ℕ, suc, ◌+◌, ◌-◌, ◌<◌, false, cond, List, [], ◌∷◌, ◌++◌, length, map, take, All, decimal, ℤ, pos, negsuc, FitsSigned, refl, sym, subst, ap, ◌∙◌, append_assoc, arith}
+use Rattle.std.specs.Prelude.{codes, bytes_eq, nat_eq}
+use Rattle.std.specs.Int.{w128}
+use Rattle.std.specs.Fmt.{signed_decimal}
 use Rattle.std.specs.List.{AllByRecursion, flat_map}
 use Rattle.std.specs.Char.{digit_value}
 use Rattle.std.specs.Str.Parse.{AllDigits, digits_value}
-use Rattle.std.proofs.lemmas.Fmt.{decimal_is_IsNumeral, decimal_injective}
+use Rattle.std.proofs.lemmas.Fmt.{decimal_is_IsNumeral, decimal_is_IsNumeral_wide, decimal_injective}
 use Rattle.std.proofs.lemmas.List.Elements.{recursion_from_All}
 use Rattle.grind_proof_kernel.specs.declared.claim.Claim.{Claim}
 use Rattle.grind_proof_kernel.specs.declared.claim.Claim.TheVariants as claims
+use Rattle.grind_proof_kernel.specs.declared.proof.Branch.{Branch}
 use Rattle.grind_proof_kernel.specs.declared.proof.Line.{Line}
 use Rattle.grind_proof_kernel.specs.declared.proof.Rule.{Rule}
 use Rattle.grind_proof_kernel.specs.declared.proof.Rule.TheVariants as rules_of
-use Rattle.grind_report.specs.Report.{RawTerm, RawProof, Block, Report, True, False, Const, Fun, Eq, Closed, Unexplored, term_words, rule_words, claim_words, line_words, indexed_lines, counted_lines, block_page, header_words, end_words, report_page, IsShort, TermFits, ClaimFits, LineFits, ProofFits, BlockFits, ReportFits, ReportOf}
+use Rattle.grind_report.specs.Report.{RawTerm, RawProof, Block, Report, True, False, Const, Fun, Int, Not, And, Or, Implies, Eq, Le, Add, Neg, Mul, Closed, Unexplored, term_words, rule_words, claim_words, branch_words, line_words, indexed_lines, counted_lines, block_page, header_words, end_words, report_page, IsShort, TermFits, RuleFits, ClaimFits, BranchFits, LineFits, ProofFits, BlockFits, ReportFits, ReportOf}
 use Rattle.grind_report.proofs.Spelling.{page_of, page_of-spelled}
-use Rattle.grind_report.proofs.SolidWords.{report_solid}
+use Rattle.grind_report.proofs.SolidWords.{digit-ne, report_solid}
 
 -- ---- lists
 
@@ -56,14 +59,50 @@ no_colon n short e =
     let digits : AllDigits 10 (codes ":") = subst (λ (ds : List ℕ). AllDigits 10 ds) (sym e) (decimal_is_IsNumeral n (omega arith)).0.1 in
     let low : digit_value 58 < 10 = digits.0 in omega (arith, low)
 
+-- ---- whole numbers
+
+integer : List ℕ → ℤ
+integer [] = pos 0
+integer (b ∷ ds) = cond (nat_eq b 45) (negsuc (digits_value 10 ds - 1)) (pos (digits_value 10 (b ∷ ds)))
+
+integer-digits : (ds : List ℕ) → AllDigits 10 ds → integer ds ≡ pos (digits_value 10 ds)
+unfolding integer
+integer-digits [] h = refl
+integer-digits (b ∷ ds) h = rw (digit-ne b 45 h.0 (λ x. omega (arith, x))) refl
+
+integer_back : (z : ℤ) → FitsSigned w128 z → integer (signed_decimal z) ≡ z
+unfolding integer
+integer_back (pos n) fits =
+    let small = fits.sfits in
+    let numeral = decimal_is_IsNumeral_wide n (omega arith) in
+    integer-digits (decimal n) numeral.0.1 ∙ ap pos numeral.1
+integer_back (negsuc n) fits =
+    let small = fits.sfits in
+    let numeral = decimal_is_IsNumeral_wide (suc n) (omega arith) in
+    let same : digits_value 10 (decimal (suc n)) - 1 ≡ n = omega (arith, numeral.1) in
+    ap (λ (k : ℕ). negsuc k) same
+
 -- ---- terms
+
+abbrev one_of : List (List ℕ) → ℕ
+one_of words = number (first_of (rest_of words))
+
+abbrev other_of : List (List ℕ) → ℕ
+other_of words = number (first_of (rest_of (rest_of words)))
 
 term_from : List (List ℕ) → RawTerm
 term_from words =
     cond (bytes_eq (first_of words) (codes "true")) True (cond (bytes_eq (first_of words) (codes "false")) False
     (cond (bytes_eq (first_of words) (codes "const")) (Const (first_of (rest_of words)))
     (cond (bytes_eq (first_of words) (codes "fun")) (Fun (first_of (rest_of words)) (map number (rest_of (rest_of words))))
-    (Eq (number (first_of (rest_of words))) (number (first_of (rest_of (rest_of words))))))))
+    (cond (bytes_eq (first_of words) (codes "int")) (Int (integer (first_of (rest_of words))))
+    (cond (bytes_eq (first_of words) (codes "not")) (Not (one_of words)) (cond (bytes_eq (first_of words) (codes "and")) (And (one_of words) (other_of words))
+    (cond (bytes_eq (first_of words) (codes "or")) (Or (one_of words) (other_of words)) (cond (bytes_eq (first_of words) (codes "implies")) (Implies (one_of words) (other_of words))
+    (cond (bytes_eq (first_of words) (codes "eq")) (Eq (one_of words) (other_of words)) (cond (bytes_eq (first_of words) (codes "le")) (Le (one_of words) (other_of words))
+    (cond (bytes_eq (first_of words) (codes "add")) (Add (one_of words) (other_of words)) (cond (bytes_eq (first_of words) (codes "neg")) (Neg (one_of words)) (Mul (one_of words) (other_of words))))))))))))))
+
+both_back : {A : Type 0} (f : ℕ → ℕ → A) (a b : ℕ) → IsShort a × IsShort b → f (number (decimal a)) (number (decimal b)) ≡ f a b
+both_back f a b fits = ap (λ (x : ℕ). f x (number (decimal b))) (number_back a fits.0) ∙ ap (λ (x : ℕ). f a x) (number_back b fits.1)
 
 term_back : (t : RawTerm) → TermFits t → term_from (term_words t) ≡ t
 unfolding term_from
@@ -71,28 +110,64 @@ term_back True fits = refl
 term_back False fits = refl
 term_back (Const name) fits = refl
 term_back (Fun name args) fits = ap (Fun name) (numbers_back args (recursion_from_All IsShort args fits.1))
-term_back (Eq a b) fits = let ea = number_back a fits.0 in let eb = number_back b fits.1 in ap (λ x. Eq x (number (decimal b))) ea ∙ ap (Eq a) eb
+term_back (Int value) fits = ap (λ (z : ℤ). Int z) (integer_back value fits)
+term_back (Not a) fits = ap (λ (x : ℕ). Not x) (number_back a fits)
+term_back (And a b) fits = both_back (λ (x y : ℕ). And x y) a b fits
+term_back (Or a b) fits = both_back (λ (x y : ℕ). Or x y) a b fits
+term_back (Implies a b) fits = both_back (λ (x y : ℕ). Implies x y) a b fits
+term_back (Eq a b) fits = both_back (λ (x y : ℕ). Eq x y) a b fits
+term_back (Le a b) fits = both_back (λ (x y : ℕ). Le x y) a b fits
+term_back (Add a b) fits = both_back (λ (x y : ℕ). Add x y) a b fits
+term_back (Neg a) fits = ap (λ (x : ℕ). Neg x) (number_back a fits)
+term_back (Mul a b) fits = both_back (λ (x y : ℕ). Mul x y) a b fits
 
 same_term : (s t : RawTerm) → TermFits s → TermFits t → term_words s ≡ term_words t → s ≡ t
 same_term s t hs ht e = sym (term_back s hs) ∙ ap term_from e ∙ term_back t ht
 
 -- ---- lines of a proof
 
+-- so many first items
+first_items : ℕ → List (List ℕ) → List ℕ
+first_items count words = map number (take count words)
+
+first_items-back : (ns : List ℕ) (words : List (List ℕ)) → AllByRecursion IsShort ns → first_items (length ns) (map decimal ns ++ words) ≡ ns
+unfolding first_items
+first_items-back [] words h = refl
+first_items-back (n ∷ ns) words h = let one = number_back n h.0 in let more = first_items-back ns words h.1 in ap (λ (x : ℕ). x ∷ first_items (length ns) (map decimal ns ++ words)) one ∙ ap (λ (rest : List ℕ). n ∷ rest) more
+
 rule_from : List (List ℕ) → Rule
 rule_from words =
-    cond (bytes_eq (first_of words) (codes "negated")) rules_of.Negated (cond (bytes_eq (first_of words) (codes "refl")) rules_of.Refl
-    (cond (bytes_eq (first_of words) (codes "back")) rules_of.Back rules_of.Clash))
+    cond (bytes_eq (first_of words) (codes "hyp")) (rules_of.Hyp (one_of words)) (cond (bytes_eq (first_of words) (codes "negated")) rules_of.Negated
+    (cond (bytes_eq (first_of words) (codes "branch")) rules_of.Branch (cond (bytes_eq (first_of words) (codes "refl")) rules_of.Refl
+    (cond (bytes_eq (first_of words) (codes "sym")) rules_of.Sym (cond (bytes_eq (first_of words) (codes "trans")) rules_of.Trans
+    (cond (bytes_eq (first_of words) (codes "cong")) rules_of.Cong (cond (bytes_eq (first_of words) (codes "eq")) rules_of.Eq
+    (cond (bytes_eq (first_of words) (codes "back")) rules_of.Back (cond (bytes_eq (first_of words) (codes "truth")) rules_of.Truth
+    (cond (bytes_eq (first_of words) (codes "untruth")) rules_of.Untruth
+    (cond (bytes_eq (first_of words) (codes "table")) (rules_of.Table (first_items (one_of words) (rest_of (rest_of words))))
+    (cond (bytes_eq (first_of words) (codes "apart")) rules_of.Apart rules_of.Clash))))))))))))
 
-rule_back : (rule : Rule) (words : List (List ℕ)) → rule_from (rule_words rule ++ words) ≡ rule
+rule_back : (rule : Rule) (words : List (List ℕ)) → RuleFits rule → rule_from (rule_words rule ++ words) ≡ rule
 unfolding rule_from
-rule_back rules_of.Negated words = refl
-rule_back rules_of.Refl words = refl
-rule_back rules_of.Back words = refl
-rule_back rules_of.Clash words = refl
+rule_back (rules_of.Hyp i) words fits = ap (λ (x : ℕ). rules_of.Hyp x) (number_back i fits)
+rule_back rules_of.Negated words fits = refl
+rule_back rules_of.Branch words fits = refl
+rule_back rules_of.Refl words fits = refl
+rule_back rules_of.Sym words fits = refl
+rule_back rules_of.Trans words fits = refl
+rule_back rules_of.Cong words fits = refl
+rule_back rules_of.Eq words fits = refl
+rule_back rules_of.Back words fits = refl
+rule_back rules_of.Truth words fits = refl
+rule_back rules_of.Untruth words fits = refl
+rule_back (rules_of.Table free) words fits =
+    ap (λ (k : ℕ). rules_of.Table (first_items k (map decimal free ++ words))) (number_back (length free) fits.0)
+    ∙ ap (λ (ns : List ℕ). rules_of.Table ns) (first_items-back free words (recursion_from_All IsShort free fits.1))
+rule_back rules_of.Apart words fits = refl
+rule_back rules_of.Clash words fits = refl
 
-same_rule : (a b : Rule) (xs ys : List (List ℕ)) → rule_words a ++ xs ≡ rule_words b ++ ys → (a ≡ b) × (xs ≡ ys)
-same_rule a b xs ys e =
-    let inject : a ≡ b = sym (rule_back a xs) ∙ ap rule_from e ∙ rule_back b ys in
+same_rule : (a b : Rule) (xs ys : List (List ℕ)) → RuleFits a → RuleFits b → rule_words a ++ xs ≡ rule_words b ++ ys → (a ≡ b) × (xs ≡ ys)
+same_rule a b xs ys ha hb e =
+    let inject : a ≡ b = sym (rule_back a xs ha) ∙ ap rule_from e ∙ rule_back b ys hb in
     let moved : rule_words a ++ xs ≡ rule_words a ++ ys = e ∙ ap (λ (r : Rule). rule_words r ++ ys) (sym inject) in
     (inject, cancel (rule_words a) xs ys moved)
 
@@ -100,14 +175,15 @@ claim_from : List (List ℕ) → Claim
 claim_from words =
     cond (bytes_eq (first_of words) (codes "holds")) (claims.Holds (number (first_of (rest_of words))))
     (cond (bytes_eq (first_of words) (codes "fails")) (claims.Fails (number (first_of (rest_of words))))
-    (cond (bytes_eq (first_of words) (codes "same")) (claims.Same (number (first_of (rest_of words))) (number (first_of (rest_of (rest_of words)))))
-    claims.Absurd))
+    (cond (bytes_eq (first_of words) (codes "same")) (claims.Same (one_of words) (other_of words))
+    (cond (bytes_eq (first_of words) (codes "differ")) (claims.Differ (one_of words) (other_of words)) claims.Absurd)))
 
 claim_back : (claim : Claim) → ClaimFits claim → claim_from (claim_words claim) ≡ claim
 unfolding claim_from
 claim_back (claims.Holds n) fits = ap (λ (x : ℕ). claims.Holds x) (number_back n fits)
 claim_back (claims.Fails n) fits = ap (λ (x : ℕ). claims.Fails x) (number_back n fits)
-claim_back (claims.Same a b) fits = ap (λ (x : ℕ). claims.Same x (number (decimal b))) (number_back a fits.0) ∙ ap (λ (x : ℕ). claims.Same a x) (number_back b fits.1)
+claim_back (claims.Same a b) fits = both_back (λ (x y : ℕ). claims.Same x y) a b fits
+claim_back (claims.Differ a b) fits = both_back (λ (x y : ℕ). claims.Differ x y) a b fits
 claim_back claims.Absurd fits = refl
 
 same_claim : (a b : Claim) → ClaimFits a → ClaimFits b → claim_words a ≡ claim_words b → a ≡ b
@@ -139,7 +215,7 @@ same_line a b ha hb e =
     let tail_a = rule_words a.rule ++ (map decimal a.premises ++ codes ":" ∷ claim_words a.claim) in
     let tail_b = rule_words b.rule ++ (map decimal b.premises ++ codes ":" ∷ claim_words b.claim) in
     let branch : a.branch ≡ b.branch = same_number a.branch b.branch ha.branch hb.branch (first_is (decimal a.branch) (decimal b.branch) tail_a tail_b e) in
-    let rule = same_rule a.rule b.rule (map decimal a.premises ++ codes ":" ∷ claim_words a.claim) (map decimal b.premises ++ codes ":" ∷ claim_words b.claim)
+    let rule = same_rule a.rule b.rule (map decimal a.premises ++ codes ":" ∷ claim_words a.claim) (map decimal b.premises ++ codes ":" ∷ claim_words b.claim) ha.rule hb.rule
     (rest_is (decimal a.branch) (decimal b.branch) tail_a tail_b e) in
     let premises = same_premises a.premises b.premises (claim_words a.claim) (claim_words b.claim)
     (recursion_from_All IsShort a.premises ha.premises) (recursion_from_All IsShort b.premises hb.premises) rule.1 in
@@ -147,6 +223,21 @@ same_line a b ha hb e =
     let e1 : a.rule ≡ b.rule = rule.0 in
     let e2 : a.premises ≡ b.premises = premises.0 in
     same_parts a.branch b.branch a.rule b.rule a.premises b.premises a.claim b.claim branch e1 e2 claim
+
+-- ---- branches
+
+abbrev branch_of_parts : ℕ → ℕ → Claim → Branch
+branch_of_parts parent after literal = record { parent = parent; after = after; literal = literal }
+
+same_branch : (a b : Branch) → BranchFits a → BranchFits b → branch_words a ≡ branch_words b → a ≡ b
+same_branch a b ha hb e =
+    let rest_a = decimal a.after ∷ claim_words a.literal in
+    let rest_b = decimal b.after ∷ claim_words b.literal in
+    let rest : rest_a ≡ rest_b = rest_is (decimal a.parent) (decimal b.parent) rest_a rest_b e in
+    let parent : a.parent ≡ b.parent = same_number a.parent b.parent ha.parent hb.parent (first_is (decimal a.parent) (decimal b.parent) rest_a rest_b e) in
+    let after : a.after ≡ b.after = same_number a.after b.after ha.after hb.after (first_is (decimal a.after) (decimal b.after) (claim_words a.literal) (claim_words b.literal) rest) in
+    let literal : a.literal ≡ b.literal = same_claim a.literal b.literal ha.literal hb.literal (rest_is (decimal a.after) (decimal b.after) (claim_words a.literal) (claim_words b.literal) rest) in
+    ap (λ (x : ℕ). branch_of_parts x a.after a.literal) parent ∙ ap (λ (x : ℕ). branch_of_parts b.parent x a.literal) after ∙ ap (λ (x : Claim). branch_of_parts b.parent b.after x) literal
 
 -- ---- lines behind indices
 
@@ -166,39 +257,51 @@ same_indexed words Fits inject index (a ∷ lefts) (b ∷ rights) p q ha hb len 
     (cc, more.1)
 
 same_counted : {A : Type 0} (title : List ℕ) (words : A → List (List ℕ)) (Fits : A → Type 0) (inject : (a b : A) → Fits a → Fits b → words a ≡ words b → a ≡ b)
-    (lefts rights : List A) (p q : List (List (List ℕ))) → All Fits lefts → All Fits rights → IsShort (length lefts) → IsShort (length rights)
-    → counted_lines title words lefts ++ p ≡ counted_lines title words rights ++ q → (lefts ≡ rights) × (p ≡ q)
-same_counted title words Fits inject lefts rights p q ha hb la lb e =
+    (index : ℕ) (lefts rights : List A) (p q : List (List (List ℕ))) → All Fits lefts → All Fits rights → IsShort (length lefts) → IsShort (length rights)
+    → counted_lines title words index lefts ++ p ≡ counted_lines title words index rights ++ q → (lefts ≡ rights) × (p ≡ q)
+same_counted title words Fits inject index lefts rights p q ha hb la lb e =
     let head_a = title ∷ decimal (length lefts) ∷ [] in
     let head_b = title ∷ decimal (length rights) ∷ [] in
-    let front : head_a ≡ head_b = first_is head_a head_b (indexed_lines words 0 lefts ++ p) (indexed_lines words 0 rights ++ q) e in
+    let front : head_a ≡ head_b = first_is head_a head_b (indexed_lines words index lefts ++ p) (indexed_lines words index rights ++ q) e in
     let counts : decimal (length lefts) ≡ decimal (length rights) = cc front in
     let len : length lefts ≡ length rights = same_number (length lefts) (length rights) la lb counts in
-    same_indexed words Fits inject 0 lefts rights p q (recursion_from_All Fits lefts ha) (recursion_from_All Fits rights hb) len
-    (rest_is head_a head_b (indexed_lines words 0 lefts ++ p) (indexed_lines words 0 rights ++ q) e)
+    same_indexed words Fits inject index lefts rights p q (recursion_from_All Fits lefts ha) (recursion_from_All Fits rights hb) len
+    (rest_is head_a head_b (indexed_lines words index lefts ++ p) (indexed_lines words index rights ++ q) e)
 
 -- ---- blocks
 
-abbrev proof_page : RawProof → List (List (List ℕ))
-proof_page proof = counted_lines (codes "terms") term_words proof.terms ++ ((codes "branches" ∷ decimal 0 ∷ []) ∷ counted_lines (codes "lines") line_words proof.lines)
+abbrev terms_page : RawProof → List (List (List ℕ))
+terms_page proof = counted_lines (codes "terms") term_words 0 proof.terms
 
-abbrev proof_of_parts : List RawTerm → List Line → RawProof
-proof_of_parts terms lines = record { terms = terms; lines = lines }
+abbrev branches_page : RawProof → List (List (List ℕ))
+branches_page proof = counted_lines (codes "branches") branch_words 1 proof.branches
+
+abbrev lines_page : RawProof → List (List (List ℕ))
+lines_page proof = counted_lines (codes "lines") line_words 0 proof.lines
+
+abbrev proof_page : RawProof → List (List (List ℕ))
+proof_page proof = terms_page proof ++ (branches_page proof ++ lines_page proof)
+
+-- three pieces before a rest, one behind the other
+regrouped : (a b c p : List (List (List ℕ))) → (a ++ (b ++ c)) ++ p ≡ a ++ (b ++ (c ++ p))
+regrouped a b c p = append_assoc a (b ++ c) p ∙ ap (λ (rest : List (List (List ℕ))). a ++ rest) (append_assoc b c p)
+
+abbrev proof_of_parts : List RawTerm → List Branch → List Line → RawProof
+proof_of_parts terms branches lines = record { terms = terms; branches = branches; lines = lines }
 
 same_proof : (a b : RawProof) (p q : List (List (List ℕ))) → ProofFits a → ProofFits b → proof_page a ++ p ≡ proof_page b ++ q → (a ≡ b) × (p ≡ q)
 same_proof a b p q ha hb e =
-    let gap = codes "branches" ∷ decimal 0 ∷ [] in
-    let terms_a = counted_lines (codes "terms") term_words a.terms in
-    let terms_b = counted_lines (codes "terms") term_words b.terms in
-    let lines_a = counted_lines (codes "lines") line_words a.lines in
-    let lines_b = counted_lines (codes "lines") line_words b.lines in
-    let regrouped : terms_a ++ (gap ∷ (lines_a ++ p)) ≡ terms_b ++ (gap ∷ (lines_b ++ q)) =
-    sym (append_assoc terms_a (gap ∷ lines_a) p) ∙ e ∙ append_assoc terms_b (gap ∷ lines_b) q in
-    let terms = same_counted (codes "terms") term_words TermFits same_term a.terms b.terms (gap ∷ (lines_a ++ p)) (gap ∷ (lines_b ++ q)) ha.terms hb.terms ha.term_count hb.term_count regrouped in
-    let lines = same_counted (codes "lines") line_words LineFits same_line a.lines b.lines p q ha.lines hb.lines ha.line_count hb.line_count (rest_is gap gap (lines_a ++ p) (lines_b ++ q) terms.1) in
+    let behind_a = branches_page a ++ (lines_page a ++ p) in
+    let behind_b = branches_page b ++ (lines_page b ++ q) in
+    let pieces : terms_page a ++ behind_a ≡ terms_page b ++ behind_b =
+    sym (regrouped (terms_page a) (branches_page a) (lines_page a) p) ∙ e ∙ regrouped (terms_page b) (branches_page b) (lines_page b) q in
+    let terms = same_counted (codes "terms") term_words TermFits same_term 0 a.terms b.terms behind_a behind_b ha.terms hb.terms ha.term_count hb.term_count pieces in
+    let branches = same_counted (codes "branches") branch_words BranchFits same_branch 1 a.branches b.branches (lines_page a ++ p) (lines_page b ++ q) ha.branches hb.branches ha.branch_count hb.branch_count terms.1 in
+    let lines = same_counted (codes "lines") line_words LineFits same_line 0 a.lines b.lines p q ha.lines hb.lines ha.line_count hb.line_count branches.1 in
     let e1 : a.terms ≡ b.terms = terms.0 in
-    let e2 : a.lines ≡ b.lines = lines.0 in
-    (ap (λ (x : List RawTerm). proof_of_parts x a.lines) e1 ∙ ap (λ (x : List Line). proof_of_parts b.terms x) e2, lines.1)
+    let e2 : a.branches ≡ b.branches = branches.0 in
+    let e3 : a.lines ≡ b.lines = lines.0 in
+    (ap (λ (x : List RawTerm). proof_of_parts x a.branches a.lines) e1 ∙ ap (λ (x : List Branch). proof_of_parts b.terms x a.lines) e2 ∙ ap (λ (x : List Line). proof_of_parts b.terms b.branches x) e3, lines.1)
 
 second_is : (a b x y : List ℕ) (xs ys : List (List ℕ)) → a ∷ x ∷ xs ≡ b ∷ y ∷ ys → x ≡ y
 second_is a b x y xs ys e = cc

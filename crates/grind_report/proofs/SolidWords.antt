@@ -1,19 +1,22 @@
 -- The words of a report that fits hold no space and no line feed.
-use Rattle.std.proofs.Common.{◌≡◌, ◌≢◌, ℕ, ◌+◌, ◌<◌, ◌^◌, Bool, true, false, not, ◌&&◌, List, [], ◌∷◌, ◌++◌, length, map, All, decimal, refl, subst, arith}
+use Rattle.std.proofs.Common.{◌≡◌, ◌≢◌, ℕ, suc, ◌+◌, ◌<◌, ◌^◌, Bool, true, false, not, ◌&&◌, List, [], ◌∷◌, ◌++◌, length, map, All, decimal, ℤ, pos, negsuc, FitsSigned, refl, subst, arith}
 use Rattle.std.specs.Prelude.{codes, nat_eq}
+use Rattle.std.specs.Int.{w128}
+use Rattle.std.specs.Fmt.{signed_decimal}
 use Rattle.std.specs.List.{AllByRecursion, flat_map}
 use Rattle.std.specs.Char.{digit_value}
 use Rattle.std.specs.Str.Parse.{AllDigits}
 use Rattle.std.proofs.lemmas.Bool.{ne_eqb}
-use Rattle.std.proofs.lemmas.Fmt.{decimal_is_IsNumeral}
+use Rattle.std.proofs.lemmas.Fmt.{decimal_is_IsNumeral, decimal_is_IsNumeral_wide}
 use Rattle.std.proofs.lemmas.List.Elements.{recursion_from_All}
 use Rattle.grind_schemes.specs.Labels.{IsLabel}
 use Rattle.grind_proof_kernel.specs.declared.claim.Claim.{Claim}
 use Rattle.grind_proof_kernel.specs.declared.claim.Claim.TheVariants as claims
+use Rattle.grind_proof_kernel.specs.declared.proof.Branch.{Branch}
 use Rattle.grind_proof_kernel.specs.declared.proof.Line.{Line}
 use Rattle.grind_proof_kernel.specs.declared.proof.Rule.{Rule}
 use Rattle.grind_proof_kernel.specs.declared.proof.Rule.TheVariants as rules_of
-use Rattle.grind_report.specs.Report.{RawTerm, Block, Report, True, False, Const, Fun, Eq, Closed, Unexplored, term_words, rule_words, claim_words, line_words, indexed_lines, counted_lines, block_page, end_words, report_page, IsShort, TermFits, ClaimFits, LineFits, BlockFits, ReportFits}
+use Rattle.grind_report.specs.Report.{RawTerm, Block, Report, True, False, Const, Fun, Int, Not, And, Or, Implies, Eq, Le, Add, Neg, Mul, Closed, Unexplored, term_words, rule_words, claim_words, branch_words, line_words, indexed_lines, counted_lines, block_page, end_words, report_page, IsShort, TermFits, RuleFits, ClaimFits, BranchFits, LineFits, BlockFits, ReportFits}
 use Rattle.grind_report.proofs.Spelling.{IsSolid, IsSolidLine}
 
 -- ---- words that are written out
@@ -39,7 +42,7 @@ written (b ∷ word) e =
 
 -- ---- numbers and names
 
-digit-ne : (c k : ℕ) → (digit_value c < 10) → (digit_value k < 10 → ⊥) → nat_eq c k ≡ false
+pub digit-ne : (c k : ℕ) → (digit_value c < 10) → (digit_value k < 10 → ⊥) → nat_eq c k ≡ false
 digit-ne c k digit large = ne_eqb c k (λ (e : c ≡ k). large (let P : ℕ → Type 0 = λ x. digit_value x < 10 in subst P e digit))
 
 digits_solid : (ds : List ℕ) → AllDigits 10 ds → IsSolid ds
@@ -51,6 +54,10 @@ decimal_solid n short = digits_solid (decimal n) (decimal_is_IsNumeral n short).
 
 short_solid : (n : ℕ) → IsShort n → IsSolid (decimal n)
 short_solid n short = decimal_solid n (omega arith)
+
+signed_solid : (z : ℤ) → FitsSigned w128 z → IsSolid (signed_decimal z)
+signed_solid (pos n) fits = let small = fits.sfits in digits_solid (decimal n) (decimal_is_IsNumeral_wide n (omega arith)).0.1
+signed_solid (negsuc n) fits = let small = fits.sfits in ((refl, refl), digits_solid (decimal (suc n)) (decimal_is_IsNumeral_wide (suc n) (omega arith)).0.1)
 
 bytes_solid : (bytes : List ℕ) → AllByRecursion (λ byte. (byte ≢ 32) × (byte ≢ 10)) bytes → IsSolid bytes
 bytes_solid [] h = tt
@@ -75,24 +82,49 @@ term_solid False fits = (written (codes "false") refl, tt)
 term_solid (Const name) fits = (written (codes "const") refl, (name_solid name fits, tt))
 term_solid (Fun name args) fits =
     (written (codes "fun") refl, (name_solid name fits.0, numbers_solid args (recursion_from_All IsShort args fits.1)))
+term_solid (Int value) fits = (written (codes "int") refl, (signed_solid value fits, tt))
+term_solid (Not a) fits = (written (codes "not") refl, (short_solid a fits, tt))
+term_solid (And a b) fits = (written (codes "and") refl, (short_solid a fits.0, (short_solid b fits.1, tt)))
+term_solid (Or a b) fits = (written (codes "or") refl, (short_solid a fits.0, (short_solid b fits.1, tt)))
+term_solid (Implies a b) fits = (written (codes "implies") refl, (short_solid a fits.0, (short_solid b fits.1, tt)))
 term_solid (Eq a b) fits = (written (codes "eq") refl, (short_solid a fits.0, (short_solid b fits.1, tt)))
+term_solid (Le a b) fits = (written (codes "le") refl, (short_solid a fits.0, (short_solid b fits.1, tt)))
+term_solid (Add a b) fits = (written (codes "add") refl, (short_solid a fits.0, (short_solid b fits.1, tt)))
+term_solid (Neg a) fits = (written (codes "neg") refl, (short_solid a fits, tt))
+term_solid (Mul a b) fits = (written (codes "mul") refl, (short_solid a fits.0, (short_solid b fits.1, tt)))
 
-rule_solid : (rule : Rule) → AllByRecursion IsSolid (rule_words rule)
-rule_solid rules_of.Negated = (written (codes "negated") refl, tt)
-rule_solid rules_of.Refl = (written (codes "refl") refl, tt)
-rule_solid rules_of.Back = (written (codes "back") refl, tt)
-rule_solid rules_of.Clash = (written (codes "clash") refl, tt)
+rule_solid : (rule : Rule) → RuleFits rule → AllByRecursion IsSolid (rule_words rule)
+rule_solid (rules_of.Hyp i) fits = (written (codes "hyp") refl, (short_solid i fits, tt))
+rule_solid rules_of.Negated fits = (written (codes "negated") refl, tt)
+rule_solid rules_of.Branch fits = (written (codes "branch") refl, tt)
+rule_solid rules_of.Refl fits = (written (codes "refl") refl, tt)
+rule_solid rules_of.Sym fits = (written (codes "sym") refl, tt)
+rule_solid rules_of.Trans fits = (written (codes "trans") refl, tt)
+rule_solid rules_of.Cong fits = (written (codes "cong") refl, tt)
+rule_solid rules_of.Eq fits = (written (codes "eq") refl, tt)
+rule_solid rules_of.Back fits = (written (codes "back") refl, tt)
+rule_solid rules_of.Truth fits = (written (codes "truth") refl, tt)
+rule_solid rules_of.Untruth fits = (written (codes "untruth") refl, tt)
+rule_solid (rules_of.Table free) fits =
+    (written (codes "table") refl, (short_solid (length free) fits.0, numbers_solid free (recursion_from_All IsShort free fits.1)))
+rule_solid rules_of.Apart fits = (written (codes "apart") refl, tt)
+rule_solid rules_of.Clash fits = (written (codes "clash") refl, tt)
 
 claim_solid : (claim : Claim) → ClaimFits claim → AllByRecursion IsSolid (claim_words claim)
 claim_solid (claims.Holds n) fits = (written (codes "holds") refl, (short_solid n fits, tt))
 claim_solid (claims.Fails n) fits = (written (codes "fails") refl, (short_solid n fits, tt))
 claim_solid (claims.Same a b) fits = (written (codes "same") refl, (short_solid a fits.0, (short_solid b fits.1, tt)))
+claim_solid (claims.Differ a b) fits = (written (codes "differ") refl, (short_solid a fits.0, (short_solid b fits.1, tt)))
 claim_solid claims.Absurd fits = (written (codes "absurd") refl, tt)
+
+branch_solid : (branch : Branch) → BranchFits branch → AllByRecursion IsSolid (branch_words branch)
+branch_solid branch fits =
+    (short_solid branch.parent fits.parent, (short_solid branch.after fits.after, claim_solid branch.literal fits.literal))
 
 line_solid : (line : Line) → LineFits line → AllByRecursion IsSolid (line_words line)
 line_solid line fits = (
   short_solid line.branch fits.branch,
-  all_both IsSolid (rule_words line.rule) (map decimal line.premises ++ codes ":" ∷ claim_words line.claim) (rule_solid line.rule)
+  all_both IsSolid (rule_words line.rule) (map decimal line.premises ++ codes ":" ∷ claim_words line.claim) (rule_solid line.rule fits.rule)
       (all_both IsSolid (map decimal line.premises) (codes ":" ∷ claim_words line.claim)
       (numbers_solid line.premises (recursion_from_All IsShort line.premises fits.premises))
       (written (codes ":") refl, claim_solid line.claim fits.claim)),
@@ -106,21 +138,23 @@ indexed_solid words Fits solid index (x ∷ items) low fits =
     ((decimal_solid index (omega arith), solid x fits.0), indexed_solid words Fits solid (index + 1) items next fits.1)
 
 counted_solid : {A : Type 0} (title : List ℕ) (words : A → List (List ℕ)) (Fits : A → Type 0) (solid : (x : A) → Fits x → AllByRecursion IsSolid (words x))
-    (items : List A) → IsSolid title → IsShort (length items) → All Fits items → AllByRecursion IsSolidLine (counted_lines title words items)
-counted_solid title words Fits solid items named low fits =
-    ((named, (short_solid (length items) low, tt)), indexed_solid words Fits solid 0 items (omega arith) (recursion_from_All Fits items fits))
+    (index : ℕ) (items : List A) → IsSolid title → index < 2 → IsShort (length items) → All Fits items → AllByRecursion IsSolidLine (counted_lines title words index items)
+counted_solid title words Fits solid index items named small low fits =
+    ((named, (short_solid (length items) low, tt)), indexed_solid words Fits solid index items (omega arith) (recursion_from_All Fits items fits))
 
 -- ---- pages
 
 block_solid : (block : Block) → BlockFits block → AllByRecursion IsSolidLine (block_page block)
-block_solid (Closed name proof) fits = (
-  (written (codes "goal") refl, (name_solid name fits.0, (written (codes "closed") refl, tt))),
-  all_both IsSolidLine (counted_lines (codes "terms") term_words proof.terms) ((codes "branches" ∷ decimal 0 ∷ []) ∷ counted_lines (codes "lines") line_words proof.lines)
-      (counted_solid (codes "terms") term_words TermFits term_solid proof.terms (written (codes "terms") refl) fits.1.term_count fits.1.terms) (
-        (written (codes "branches") refl, (decimal_solid 0 (omega arith), tt)),
-        counted_solid (codes "lines") line_words LineFits line_solid proof.lines (written (codes "lines") refl) fits.1.line_count fits.1.lines,
-      ),
-)
+block_solid (Closed name proof) fits =
+    let branches = counted_lines (codes "branches") branch_words 1 proof.branches in
+    let lines = counted_lines (codes "lines") line_words 0 proof.lines in (
+      (written (codes "goal") refl, (name_solid name fits.0, (written (codes "closed") refl, tt))),
+      all_both IsSolidLine (counted_lines (codes "terms") term_words 0 proof.terms) (branches ++ lines)
+          (counted_solid (codes "terms") term_words TermFits term_solid 0 proof.terms (written (codes "terms") refl) (omega arith) fits.1.term_count fits.1.terms)
+          (all_both IsSolidLine branches lines
+          (counted_solid (codes "branches") branch_words BranchFits branch_solid 1 proof.branches (written (codes "branches") refl) (omega arith) fits.1.branch_count fits.1.branches)
+          (counted_solid (codes "lines") line_words LineFits line_solid 0 proof.lines (written (codes "lines") refl) (omega arith) fits.1.line_count fits.1.lines)),
+    )
 block_solid (Unexplored name) fits =
     ((written (codes "goal") refl, (name_solid name fits, (written (codes "open") refl, (written (codes "unexplored") refl, tt)))), tt)
 

@@ -1,9 +1,10 @@
 -- Which proof a block of a report stands for.
 use Rattle.std.specs.Prelude.{◌≡◌, ℕ, ◌-◌, ◌^◌, List, [], ◌∷◌, length, map, Some, slice_get, All}
 use Rattle.std.specs.List.{AllZip}
+use Rattle.grind_term_graph.specs.declared.head.Head.{Head}
 use Rattle.grind_term_graph.specs.declared.head.Head.TheVariants as heads
 use Rattle.grind_term_graph.specs.declared.node.Node.{Node}
-use Rattle.grind_term_graph.specs.Terms.{prop, sort_at}
+use Rattle.grind_term_graph.specs.Terms.{prop, int, sort_at}
 use Rattle.grind_term_graph.specs.Shape.{IsTable}
 use Rattle.grind_schemes.specs.declared.goal.Constant.{Constant}
 use Rattle.grind_schemes.specs.Goals.{GoalData}
@@ -13,20 +14,34 @@ use Rattle.grind_proof_kernel.specs.Typing.{HasTerms}
 use Rattle.grind_report.specs.declared.report.Outcome.{Outcome}
 use Rattle.grind_report.specs.declared.report.Outcome.TheVariants as outcomes
 use Rattle.grind_signature.specs.Signatures.{Function, SignatureData, IsDeclared}
-use Rattle.grind_report.specs.Report.{RawTerm, RawProof, Block, True, False, Const, Fun, Eq, Closed, Unexplored, TakesPremises}
+use Rattle.grind_report.specs.Report.{RawTerm, RawProof, Block, True, False, Const, Fun, Int, Not, And, Or, Implies, Eq, Le, Add, Neg, Mul, Closed, Unexplored, TakesPremises}
 
--- the term names this node: a constant of that name, or a declared function of that name at arguments of its sorts
+-- the node of a head of this sort at these arguments
+abbrev pub node_of : Head → ℕ → List ℕ → Node
+node_of head sort args = record { head = head; sort = sort; args = args }
+
+-- the term names this node: a constant of that name, a declared function of that name at arguments of its sorts, or a
+-- truth, a connective, an equation, an order, a whole number or an operation on whole numbers
 abbrev pub StandsFor : SignatureData → List Constant → List Node → RawTerm → Node → Type 0
-StandsFor signature constants nodes True node = node ≡ record { head = heads.True; sort = prop; args = [] }
-StandsFor signature constants nodes False node = node ≡ record { head = heads.False; sort = prop; args = [] }
+StandsFor signature constants nodes True node = node ≡ node_of heads.True prop []
+StandsFor signature constants nodes False node = node ≡ node_of heads.False prop []
 StandsFor signature constants nodes (Const name) node =
     (number : ℕ) × (constant : Constant) × (slice_get constants number ≡ Some constant) × (name ≡ constant.name)
-    × (node ≡ record { head = heads.Const number; sort = constant.sort; args = [] })
+    × (node ≡ node_of (heads.Const number) constant.sort [])
 StandsFor signature constants nodes (Fun name args) node =
     (number : ℕ) × (function : Function) × (slice_get signature.functions number ≡ Some function) × (name ≡ function.name)
     × (map (sort_at nodes) args ≡ map Some function.args)
-    × (node ≡ record { head = heads.Fun number; sort = function.result; args = args })
-StandsFor signature constants nodes (Eq a b) node = node ≡ record { head = heads.Eq; sort = prop; args = a ∷ b ∷ [] }
+    × (node ≡ node_of (heads.Fun number) function.result args)
+StandsFor signature constants nodes (Int value) node = node ≡ node_of (heads.Int value) int []
+StandsFor signature constants nodes (Not a) node = node ≡ node_of heads.Not prop (a ∷ [])
+StandsFor signature constants nodes (And a b) node = node ≡ node_of heads.And prop (a ∷ b ∷ [])
+StandsFor signature constants nodes (Or a b) node = node ≡ node_of heads.Or prop (a ∷ b ∷ [])
+StandsFor signature constants nodes (Implies a b) node = node ≡ node_of heads.Implies prop (a ∷ b ∷ [])
+StandsFor signature constants nodes (Eq a b) node = node ≡ node_of heads.Eq prop (a ∷ b ∷ [])
+StandsFor signature constants nodes (Le a b) node = node ≡ node_of heads.Le prop (a ∷ b ∷ [])
+StandsFor signature constants nodes (Add a b) node = node ≡ node_of heads.Add int (a ∷ b ∷ [])
+StandsFor signature constants nodes (Neg a) node = node ≡ node_of heads.Neg int (a ∷ [])
+StandsFor signature constants nodes (Mul a b) node = node ≡ node_of heads.Mul int (a ∷ b ∷ [])
 
 -- how many nodes the table of a proof that was read may hold
 abbrev pub widest : ℕ
@@ -38,6 +53,7 @@ pub record ProofOf (signature : SignatureData) (goal : GoalData) (raw : RawProof
   pub table : IsTable [] proof.terms.nodes
   pub front : HasTerms goal proof
   pub limit : proof.terms.limit ≡ widest
+  pub branches : raw.branches ≡ proof.branches
   pub lines : raw.lines ≡ proof.lines
 
 -- the block says this outcome of the goal

@@ -1,4 +1,5 @@
 pub mod Blocks
 pub mod Naming
+pub mod Parts
 pub mod Report
 pub mod ReportCases

@@ -1,21 +1,47 @@
--- Worked cases: a block that is spelled, and two that do not fit.
-use Rattle.std.specs.Prelude.{◌≡◌, [], ◌∷◌, ◌++◌, codes, refl}
+-- Worked cases: blocks and lines that are spelled, and some that do not fit.
+use Rattle.std.specs.Prelude.{◌≡◌, [], ◌∷◌, ◌++◌, codes, refl, negsuc}
 use Rattle.std.specs.Fmt.{digits}
 use Rattle.std.proofs.Common.{lit<, inl, inr}
 use Rattle.grind_proof_kernel.specs.declared.claim.Claim.TheVariants as claims
 use Rattle.grind_proof_kernel.specs.declared.proof.Line.{Line}
 use Rattle.grind_proof_kernel.specs.declared.proof.Rule.TheVariants as rules
-use Rattle.grind_report.specs.Report.{True, Fun, Closed, Unexplored, line_words, line_bytes, block_bytes, BlockFits, LineFits}
+use Rattle.grind_report.specs.Report.{Block, True, False, Const, Fun, Int, Closed, Unexplored, term_words, line_words, line_bytes, block_bytes, BlockFits, LineFits}
 
 -- a goal that nobody looked at is one line
 pub unexplored_is_spelled : block_bytes (Unexplored (codes "t")) ≡ codes "goal t open unexplored" ++ 10 ∷ []
 unexplored_is_spelled = refl
 
 -- the block of a proof without lines, of the terms `true` and `f(true)`
-pub closed_is_spelled : block_bytes (Closed (codes "g") (record { terms = True ∷ Fun (codes "f") (0 ∷ []) ∷ []; lines = [] }))
+pub closed_is_spelled : block_bytes (Closed (codes "g") (record { terms = True ∷ Fun (codes "f") (0 ∷ []) ∷ []; branches = []; lines = [] }))
     ≡ codes "goal g closed" ++ 10 ∷ codes "terms 2" ++ 10 ∷ codes "0 true" ++ 10 ∷ codes "1 fun f 0" ++ 10 ∷ codes "branches 0" ++ 10 ∷ codes "lines 0" ++ 10 ∷ []
 unfolding digits
 closed_is_spelled = refl
+
+-- the block of a proof with a pair of branches
+abbrev split : Block
+split = Closed (codes "t") (record {
+  terms = True ∷ False ∷ Const (codes "a") ∷ [];
+  branches = record { parent = 0; after = 7; literal = claims.Holds 4 } ∷ record { parent = 0; after = 7; literal = claims.Fails 4 } ∷ [];
+  lines = [];
+})
+
+pub branches_are_spelled : block_bytes split
+    ≡ codes "goal t closed" ++ 10 ∷ codes "terms 3" ++ 10 ∷ codes "0 true" ++ 10 ∷ codes "1 false" ++ 10 ∷ codes "2 const a" ++ 10 ∷ codes "branches 2" ++ 10 ∷ codes "1 0 7 holds 4" ++ 10 ∷ codes "2 0 7 fails 4" ++ 10 ∷ codes "lines 0" ++ 10 ∷ []
+unfolding digits
+branches_are_spelled = refl
+
+-- a negative number
+pub negative_is_spelled : line_bytes (term_words (Int (negsuc 11))) ≡ codes "int -12" ++ 10 ∷ []
+unfolding digits
+negative_is_spelled = refl
+
+-- a line of the rule `table`: two free nodes, and two premises
+abbrev tabled : Line
+tabled = record { branch = 2; rule = rules.Table (4 ∷ 6 ∷ []); premises = 0 ∷ 12 ∷ []; claim = claims.Holds 6 }
+
+pub table_is_spelled : line_bytes (line_words tabled) ≡ codes "2 table 2 4 6 0 12 : holds 6" ++ 10 ∷ []
+unfolding digits
+table_is_spelled = refl
 
 -- a line with two premises
 abbrev clash : Line
@@ -35,3 +61,10 @@ lone = record { branch = 0; rule = rules.Clash; premises = []; claim = claims.Ab
 
 pub lone_clash_fits_not : LineFits lone → ⊥
 lone_clash_fits_not fits = elim fits.count [ inl e ↦ absurd cc | inr e ↦ absurd cc ]
+
+-- nor has `apart` of two premises
+abbrev halved : Line
+halved = record { branch = 0; rule = rules.Apart; premises = 1 ∷ 2 ∷ []; claim = claims.Differ 3 4 }
+
+pub apart_of_two_fits_not : LineFits halved → ⊥
+apart_of_two_fits_not fits = elim fits.count [ inl e ↦ absurd cc | inr some ↦ elim some [ inl e ↦ absurd cc | inr e ↦ absurd cc ] ]

@@ -6,6 +6,8 @@ ghost use Rattle.grind_report.specs.Blocks.{ProofOf, IsBlockOf, IsPrintable, Out
 
 mod block;
 mod lines;
+mod rules;
+mod terms;
 #[cfg(test)]
 mod tests;
 mod words;
@@ -97,6 +99,7 @@ fn render_closed(
     let name = goal.name();
     let constants = constants_of(goal);
     let _terms = proof.terms.len();
+    let _branches = proof.branches.len();
     let _lines = proof.lines.len();
     let mut out = List::new(alloc);
     block::put_closed(&mut out, signature, constants, name, proof)?;

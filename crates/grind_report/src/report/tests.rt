@@ -2,12 +2,12 @@
 ghost use Rattle.std.specs.Prelude.{◌≡◌, length};
 ghost use Rattle.grind_report.specs.Report.{TakesPremises};
 
-use crate::report::{self, Outcome, lines};
+use crate::report::{self, Outcome, lines, terms};
 use grind_outside::{List, Memory};
-use grind_proof_kernel::{Claim, Line, Rule};
+use grind_proof_kernel::{Branch, Claim, Line, Rule};
 use grind_schemes::Goal;
 use grind_signature::signature::Signature;
-use grind_term_graph::{NodeId, TermTable};
+use grind_term_graph::{Args, Head, Node, NodeId, SortId, TermTable};
 use std::alloc::Global;
 use std::test::Fail;
 
@@ -31,6 +31,39 @@ fn line_text(
     };
     let mut out = List::new(alloc);
     lines::put_line(&mut out, index, &line)?;
+    Ok(out)
+}
+
+// the text of a branch
+fn branch_text(alloc: Global, index: u32, branch: &Branch) -> Result<List<u8>, Memory> {
+    let mut out = List::new(alloc);
+    lines::put_branch(&mut out, index, branch)?;
+    Ok(out)
+}
+
+// the text of a whole number
+fn integer_text(alloc: Global, index: u32, value: i128) -> Result<List<u8>, Fail> {
+    let signature = Signature::new(alloc)?;
+    let node = Node {
+        head: Head::Int(value),
+        sort: SortId::INT,
+        args: Args::from_slice(alloc, &[])?,
+    };
+    let mut out = List::new(alloc);
+    terms::put_term_line(&mut out, index, &signature, &[], &node)?;
+    Ok(out)
+}
+
+// the text of the conjunction of two nodes
+fn conjunction_text(alloc: Global, index: u32, left: u32, right: u32) -> Result<List<u8>, Fail> {
+    let signature = Signature::new(alloc)?;
+    let node = Node {
+        head: Head::And,
+        sort: SortId::PROP,
+        args: Args::from_slice(alloc, &[NodeId::new(left), NodeId::new(right)])?,
+    };
+    let mut out = List::new(alloc);
+    terms::put_term_line(&mut out, index, &signature, &[], &node)?;
     Ok(out)
 }
 
@@ -68,6 +101,60 @@ fn prints_the_lines_of_a_proof(rt: HostRuntime) -> Result<(), Fail> {
     assert_eq!(rt; back.as_slice(), b"2 0 back 1 : holds 4\n".as_slice());
     let clash = line_text(alloc, 3, Rule::Clash, &[2, 0], Claim::Absurd)?;
     assert_eq!(rt; clash.as_slice(), b"3 0 clash 2 0 : absurd\n".as_slice());
+    Ok(())
+}
+
+#[test]
+fn prints_rules_with_numbers(rt: HostRuntime) -> Result<(), Fail> {
+    let alloc = rt.alloc();
+    let hyp = line_text(alloc, 0, Rule::Hyp(1), &[], Claim::Holds(NodeId::new(4)))?;
+    assert_eq!(rt; hyp.as_slice(), b"0 0 hyp 1 : holds 4\n".as_slice());
+    let mut free = List::new(alloc);
+    free.extend(&[NodeId::new(4), NodeId::new(6)])?;
+    let table = line_text(
+        alloc,
+        13,
+        Rule::Table(free),
+        &[0, 12],
+        Claim::Holds(NodeId::new(6)),
+    )?;
+    assert_eq!(rt;
+        table.as_slice(),
+        b"13 0 table 2 4 6 0 12 : holds 6\n".as_slice()
+    );
+    let differ = Claim::Differ(NodeId::new(2), NodeId::new(3));
+    let apart = line_text(alloc, 14, Rule::Apart, &[1, 2, 3], differ)?;
+    assert_eq!(rt;
+        apart.as_slice(),
+        b"14 0 apart 1 2 3 : differ 2 3\n".as_slice()
+    );
+    Ok(())
+}
+
+#[test]
+fn prints_branches_and_terms(rt: HostRuntime) -> Result<(), Fail> {
+    let alloc = rt.alloc();
+    let branch = Branch {
+        parent: 0,
+        after: 7,
+        literal: Claim::Fails(NodeId::new(4)),
+    };
+    assert_eq!(rt;
+        branch_text(alloc, 2, &branch)?.as_slice(),
+        b"2 0 7 fails 4\n".as_slice()
+    );
+    assert_eq!(rt;
+        integer_text(alloc, 5, -12)?.as_slice(),
+        b"5 int -12\n".as_slice()
+    );
+    assert_eq!(rt;
+        integer_text(alloc, 6, 0)?.as_slice(),
+        b"6 int 0\n".as_slice()
+    );
+    assert_eq!(rt;
+        conjunction_text(alloc, 7, 3, 2)?.as_slice(),
+        b"7 and 3 2\n".as_slice()
+    );
     Ok(())
 }
 

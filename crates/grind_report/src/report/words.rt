@@ -1,5 +1,7 @@
 //! The words of a line. Each call puts bytes at the end of what is printed so far.
-ghost use Rattle.std.specs.Prelude.{◌≡◌, ◌++◌, ◌∷◌, [], map, All, OnOk, decimal};
+ghost use Rattle.std.specs.Prelude.{◌≡◌, ◌++◌, ◌∷◌, [], map, All, OnOk, decimal, FitsSigned};
+ghost use Rattle.std.specs.Fmt.{signed_decimal};
+ghost use Rattle.std.specs.Int.{w128};
 ghost use Rattle.grind_report.specs.Report.{spaced, IsShort};
 
 use grind_outside::{List, Memory};
@@ -31,6 +33,17 @@ pub fn put_number(out: &mut List<u8>, number: u32) -> Result<(), Memory>
 {
     out.push(b' ')?;
     put_digits(out, number)?;
+    Ok(())
+}
+
+/// A signed number behind a space.
+pub fn put_integer(out: &mut List<u8>, value: i128) -> Result<(), Memory>
+    ensures text { OnOk result (out.new ≡ out.old ++ spaced (signed_decimal value ∷ [])) }
+    ensures fits { FitsSigned w128 value }
+{
+    let mut buffer = Buffer::new();
+    out.push(b' ')?;
+    out.extend(buffer.format(value).as_bytes())?;
     Ok(())
 }
 

@@ -20,7 +20,7 @@ returns-clause-fits c =
     rw c.constants_of-constants.ensures at c.in_ok-put_closed.ensures.terms in
     let few : IsShort (length c.args.proof.now.terms.nodes) = omega (arith, c.len-terms.ensures.bound, c.len-terms.ensures.limit) in
     closed_fits c.args.signature.now c.args.goal.now.constants c.args.goal.now.name c.args.proof.now c.name-name.ensures.keeps.name
-    terms c.in_ok-put_closed.ensures.lines few c.len-lines.ensures.bound
+    terms c.in_ok-put_closed.ensures.branches c.in_ok-put_closed.ensures.lines few c.len-branches.ensures.bound c.len-lines.ensures.bound
 
 pub returns-clause-proof : goal.returns-clause-proof
 returns-clause-proof c = raw_proof_of c.args.signature.now c.args.goal.now c.args.proof.now c.requires c.len-terms.ensures.table

@@ -10,6 +10,6 @@ loop-index-preserved c =
     let line : Line = c.index-lines-index.result in
     let here : c.index-lines-index.result ≡ get_or c.args.lines.now c.loop-index.index c.index-lines-index.result = cc in
     let low : c.loop-index.index < length c.args.lines.now = omega (arith, ap length c.as_slice-lines.ensures.value) in (
-      next_line line_words c.args.lines.now c.loop-index.index c.index-lines-index.result c.put_count.new.out c.loop-index.out c.put_line.new.out low here c.loop-index.invariant.0 c.in_ok-put_line.ensures.text,
+      next_line line_words 0 c.loop-index.index c.args.lines.now c.loop-index.index c.index-lines-index.result c.put_count.new.out c.loop-index.out c.put_line.new.out low here c.loop-index.invariant.0 (omega arith) c.in_ok-put_line.ensures.text,
       All-more LineFits c.args.lines.now c.loop-index.index c.index-lines-index.result low c.loop-index.invariant.1 (subst LineFits here c.in_ok-put_line.ensures.fits),
     )

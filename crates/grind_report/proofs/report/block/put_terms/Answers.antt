@@ -13,7 +13,7 @@ loop-index-preserved c =
     let here : c.node.result.now ≡ get_or c.args.terms.now.nodes c.loop-index.index c.node.result.now = sym (get_or_from_slice_get c.args.terms.now.nodes c.loop-index.index c.node.result.now c.node.result.now found) in
     let low : c.loop-index.index < length c.args.terms.now.nodes = omega arith in
     let P : Node → Type 0 = λ node. TermFits (term_of c.args.signature.now c.args.constants.now node) in (
-      next_line (node_words c.args.signature.now c.args.constants.now) c.args.terms.now.nodes c.loop-index.index c.node.result.now c.put_count.new.out c.loop-index.out c.put_term_line.new.out
-          low here c.loop-index.invariant.0 c.in_ok-put_term_line.ensures.text,
+      next_line (node_words c.args.signature.now c.args.constants.now) 0 c.loop-index.index c.args.terms.now.nodes c.loop-index.index c.node.result.now c.put_count.new.out c.loop-index.out c.put_term_line.new.out
+          low here c.loop-index.invariant.0 (omega arith) c.in_ok-put_term_line.ensures.text,
       All-more P c.args.terms.now.nodes c.loop-index.index c.node.result.now low c.loop-index.invariant.1 (subst P here c.in_ok-put_term_line.ensures.fits),
     )

@@ -2,7 +2,7 @@ use Rattle.std.proofs.Common.{◌≡◌, arith}
 use Rattle.std.proofs.lemmas.Grind.{common_steps}
 use Rattle.grind_report.specs.Naming.{function_name}
 use Rattle.grind_report.proofs.FunctionNames.{name_found, name_labelled}
-use Rattle.grind_report.proofs.report.lines.put_function.Goals as goal
+use Rattle.grind_report.proofs.report.terms.put_function.Goals as goal
 
 pub returns-clause-text : goal.returns-clause-text
 returns-clause-text c =

@@ -1,0 +1,59 @@
+//! The words of a rule.
+ghost use Rattle.std.specs.Prelude.{◌≡◌, ◌++◌, OnOk};
+ghost use Rattle.grind_report.specs.Report.{spaced, rule_words, RuleFits};
+ghost use Rattle.grind_report.specs.Parts.{rule_word, rule_details};
+
+use crate::report::words;
+use grind_outside::{List, Memory};
+use grind_proof_kernel::Rule;
+
+/// The word that a rule begins with.
+fn word_of_rule(rule: &Rule) -> &'static [u8]
+    ensures { result.now ≡ rule_word rule.now }
+{
+    match rule {
+        Rule::Hyp(_) => b"hyp",
+        Rule::Negated => b"negated",
+        Rule::Branch => b"branch",
+        Rule::Refl => b"refl",
+        Rule::Sym => b"sym",
+        Rule::Trans => b"trans",
+        Rule::Cong => b"cong",
+        Rule::Eq => b"eq",
+        Rule::Back => b"back",
+        Rule::Truth => b"truth",
+        Rule::Untruth => b"untruth",
+        Rule::Table(_) => b"table",
+        Rule::Apart => b"apart",
+        Rule::Clash => b"clash",
+    }
+}
+
+/// The numbers of a rule: that of the hypothesis, or the count of the free nodes and these.
+fn put_details(out: &mut List<u8>, rule: &Rule) -> Result<(), Memory>
+    ensures text { OnOk result (out.new ≡ out.old ++ spaced (rule_details rule.now)) }
+    ensures fits { OnOk result (RuleFits rule.now) }
+{
+    match rule {
+        Rule::Hyp(number) => {
+            words::put_number(out, *number)?;
+            Ok(())
+        }
+        Rule::Table(free) => {
+            words::put_number(out, free.len() as u32)?;
+            words::put_nodes(out, free.as_slice())?;
+            Ok(())
+        }
+        _ => Ok(()),
+    }
+}
+
+/// The words of a rule, before its premises.
+pub fn put_rule(out: &mut List<u8>, rule: &Rule) -> Result<(), Memory>
+    ensures text { OnOk result (out.new ≡ out.old ++ spaced (rule_words rule.now)) }
+    ensures fits { OnOk result (RuleFits rule.now) }
+{
+    words::put_word(out, word_of_rule(rule))?;
+    put_details(out, rule)?;
+    Ok(())
+}
