@@ -1,3 +1,6 @@
+pub mod DeclarationSteps
 pub mod Determined
 pub mod Members
-pub mod Steps
+pub mod NameSteps
+pub mod RelationSteps
+pub mod TermSteps

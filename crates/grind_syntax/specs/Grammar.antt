@@ -42,10 +42,24 @@ mutual
     next_part : {ls mid rest : List Lexeme} {t : Term} {row : Row} → Applied ls t (Symbol symbols.Comma ∷ mid) → Parts mid row rest →
         Parts ls (more t row) rest
 
--- a relation of two terms
+-- a relation of two terms: they are the same, or they differ
 pub data Relation : List Lexeme → Term → List Lexeme → Type 0 where
   equation : {ls mid rest : List Lexeme} {left right : Term} → Applied ls left (Symbol symbols.Eq ∷ mid) → Applied mid right rest →
       Relation ls (Two binaries.Eq left right) rest
+  inequation : {ls mid rest : List Lexeme} {left right : Term} → Applied ls left (Symbol symbols.Ne ∷ mid) → Applied mid right rest →
+      Relation ls (Two binaries.Ne left right) rest
+
+-- relations with semicolons between them, up to the turnstile. No tree is deeper than 200.
+pub data Relations : List Lexeme → List Term → List Lexeme → Type 0 where
+  last_relation : {ls rest : List Lexeme} {t : Term} → Relation ls t (Symbol symbols.Turnstile ∷ rest) → depth t ≤ 200 →
+      Relations ls (t ∷ []) rest
+  next_relation : {ls mid rest : List Lexeme} {t : Term} {ts : List Term} → Relation ls t (Symbol symbols.Semicolon ∷ mid) → depth t ≤ 200 →
+      Relations mid ts rest → Relations ls (t ∷ ts) rest
+
+-- the hypotheses of a goal, and the turnstile behind them: none, or relations
+pub data Hypotheses : List Lexeme → List Term → List Lexeme → Type 0 where
+  no_hypotheses : {rest : List Lexeme} → Hypotheses (Symbol symbols.Turnstile ∷ rest) [] rest
+  hypotheses : {ls rest : List Lexeme} {hyps : List Term} → Relations ls hyps rest → Hypotheses ls hyps rest
 
 -- names with commas between them, up to the right parenthesis
 pub data Names : List Lexeme → List (List ℕ) → List Lexeme → Type 0 where
@@ -87,9 +101,9 @@ pub data Declares : List Lexeme → Declaration → List Lexeme → Type 0 where
   new_function : {word name result : List ℕ} {sorts : List (List ℕ)} {ls rest : List Lexeme} → word ≡ codes "fun" → IsName name →
       Arguments ls sorts (Symbol symbols.Colon ∷ Word result ∷ rest) → IsName result →
       Declares (Word word ∷ Word name ∷ ls) (Fun name sorts result) rest
-  new_goal : {word name : List ℕ} {bounds : List Bound} {show : Term} {ls mid rest : List Lexeme} → word ≡ codes "goal" → IsName name →
-      Binders ls bounds (Symbol symbols.Colon ∷ Symbol symbols.Turnstile ∷ mid) → Relation mid show rest → depth show ≤ 200 →
-      Declares (Word word ∷ Word name ∷ ls) (Goal name bounds [] show) rest
+  new_goal : {word name : List ℕ} {bounds : List Bound} {hyps : List Term} {show : Term} {ls facts mid rest : List Lexeme} → word ≡ codes "goal" → IsName name →
+      Binders ls bounds (Symbol symbols.Colon ∷ facts) → Hypotheses facts hyps mid → Relation mid show rest → depth show ≤ 200 →
+      Declares (Word word ∷ Word name ∷ ls) (Goal name bounds hyps show) rest
 
 -- a file: declarations, each with a dot behind it
 pub data DeclarationsOf : List Lexeme → List Declaration → Type 0 where

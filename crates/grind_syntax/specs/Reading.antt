@@ -3,17 +3,19 @@
 use Rattle.std.specs.Prelude.{◌≡◌, ℕ, ◌≤◌, ◌<◌, Bool, true, false, List, [], ◌∷◌, ◌++◌, length, codes}
 use Rattle.grind_syntax.specs.declared.syntax.Name.{Name}
 use Rattle.grind_syntax.specs.declared.syntax.Binder.{Binder}
+use Rattle.grind_syntax.specs.declared.syntax.Binary.{Binary}
+use Rattle.grind_syntax.specs.declared.syntax.Binary.TheVariants as binaries
 use Rattle.grind_syntax.specs.declared.syntax.Item.{Item}
 use Rattle.grind_syntax.specs.declared.syntax.Decl.{Decl}
 use Rattle.grind_tokens.specs.declared.tokens.Sym.{Sym}
 use Rattle.grind_tokens.specs.declared.tokens.Sym.TheVariants as symbols
 use Rattle.grind_tokens.specs.declared.tokens.Token.{Token}
-use Rattle.grind_syntax.specs.declared.parse.Keyword.{Keyword}
-use Rattle.grind_syntax.specs.declared.parse.Keyword.TheVariants as keywords
+use Rattle.grind_syntax.specs.declared.words.Keyword.{Keyword}
+use Rattle.grind_syntax.specs.declared.words.Keyword.TheVariants as keywords
 use Rattle.grind_syntax.specs.Names.{IsName}
 use Rattle.grind_syntax.specs.Syntax.{Term, Row, none, more, Apply, Two, depth, row_depth, row_length, Bound, Declaration}
-use Rattle.grind_syntax.specs.Kept.{name_of, KeepsName, KeepsNames, KeepsBinders, KeepsSteps, KeepsTerm, Keeps, KeepsAll, row_steps}
-use Rattle.grind_syntax.specs.Grammar.{Lexeme, Word, Symbol, lexemes, Applied, Parts, Relation, Names, Arguments, Binds, Group, Groups, Binders, Declares, DeclarationsOf}
+use Rattle.grind_syntax.specs.Kept.{name_of, KeepsName, KeepsNames, KeepsBinders, KeepsSteps, KeepsTerm, KeepsTerms, Keeps, KeepsAll, row_steps}
+use Rattle.grind_syntax.specs.Grammar.{Lexeme, Word, Symbol, lexemes, Applied, Parts, Relation, Relations, Hypotheses, Names, Arguments, Binds, Group, Groups, Binders, Declares, DeclarationsOf}
 
 -- each token stands in the text
 abbrev pub Placed : List ℕ → List Token → Type 0
@@ -43,6 +45,22 @@ separator false = symbols.Comma
 
 abbrev pub NoSeparator : List Lexeme → Type 0
 NoSeparator ls = (last : Bool) → NoSymbol (separator last) ls
+
+-- the symbol between the two sides of a relation
+abbrev pub comparison : Binary → Sym
+comparison binaries.Eq = symbols.Eq
+comparison binaries.Ne = symbols.Ne
+
+abbrev pub NoComparison : List Lexeme → Type 0
+NoComparison ls = (op : Binary) → NoSymbol (comparison op) ls
+
+-- what stands behind a hypothesis: the turnstile behind the last one, else a semicolon
+abbrev pub link : Bool → Sym
+link true = symbols.Turnstile
+link false = symbols.Semicolon
+
+abbrev pub NoLink : List Lexeme → Type 0
+NoLink ls = (last : Bool) → NoSymbol (link last) ls
 
 -- the word that a declaration begins with
 abbrev pub keyword : Keyword → List ℕ
@@ -107,15 +125,70 @@ pub record PartsSoFar (text : List ℕ) (all : List Lexeme) (room : ℕ) (old ne
   pub counted : count ≡ row_length row
   pub refused : NoParts room rest → NoParts room all
 
--- a relation with the dot behind it
-pub record ShownAt (text : List ℕ) (ls : List Lexeme) (kept : List Item) (rest : List Lexeme) : Type 0 where
+abbrev pub NoLeft : ℕ → List Lexeme → Type 0
+NoLeft room ls = (op : Binary) → NoTermBefore (comparison op) room ls
+
+-- no parenthesis stands behind a relation that ends with a constant
+abbrev pub Ends : Term → List Lexeme → Type 0
+Ends (Apply name row) rest = Unit {0}
+Ends (Two op a b) rest = Whole b rest
+
+pub record RelationAt (text : List ℕ) (ls : List Lexeme) (kept : List Item) (rest : List Lexeme) : Type 0 where
   pub term : Term
-  pub derived : Relation ls term (Symbol symbols.Dot ∷ rest)
+  pub derived : Relation ls term rest
+  pub ends : Ends term rest
   pub shallow : depth term ≤ 200
   pub keeps : KeepsTerm text kept term
 
+abbrev pub NoRelation : List Lexeme → Type 0
+NoRelation ls = (t : Term) (rest : List Lexeme) → Relation ls t rest → Ends t rest → depth t ≤ 200 → ⊥
+
+-- a relation with this symbol behind it
+pub record StatedAt (text : List ℕ) (ls : List Lexeme) (sym : Sym) (kept : List Item) (rest : List Lexeme) : Type 0 where
+  pub term : Term
+  pub derived : Relation ls term (Symbol sym ∷ rest)
+  pub shallow : depth term ≤ 200
+  pub keeps : KeepsTerm text kept term
+
+abbrev pub NoneStated : Sym → List Lexeme → Type 0
+NoneStated sym ls = (t : Term) (rest : List Lexeme) → Relation ls t (Symbol sym ∷ rest) → depth t ≤ 200 → ⊥
+
+-- a relation with the dot behind it
+abbrev pub ShownAt : List ℕ → List Lexeme → List Item → List Lexeme → Type 0
+ShownAt text ls kept rest = StatedAt text ls symbols.Dot kept rest
+
 abbrev pub NoneShown : List Lexeme → Type 0
-NoneShown ls = (t : Term) (rest : List Lexeme) → Relation ls t (Symbol symbols.Dot ∷ rest) → depth t ≤ 200 → ⊥
+NoneShown ls = NoneStated symbols.Dot ls
+
+-- a relation with what stands behind a hypothesis
+abbrev pub HypothesisAt : List ℕ → List Lexeme → List Item → Bool → List Lexeme → Type 0
+HypothesisAt text ls kept last rest = StatedAt text ls (link last) kept rest
+
+abbrev pub NoHypothesis : List Lexeme → Type 0
+NoHypothesis ls = (last : Bool) → NoneStated (link last) ls
+
+pub record RelationsAt (text : List ℕ) (ls : List Lexeme) (kept : List (List Item)) (rest : List Lexeme) : Type 0 where
+  pub terms : List Term
+  pub derived : Relations ls terms rest
+  pub keeps : KeepsTerms text kept terms
+
+abbrev pub NoRelations : List Lexeme → Type 0
+NoRelations ls = (ts : List Term) (rest : List Lexeme) → Relations ls ts rest → ⊥
+
+-- some relations were taken off the front of all, and the rest is left
+pub record RelationsSoFar (text : List ℕ) (all : List Lexeme) (kept : List (List Item)) (rest : List Lexeme) : Type 0 where
+  pub terms : List Term
+  pub derived : (further : List Term) (left : List Lexeme) → Relations rest further left → Relations all (terms ++ further) left
+  pub keeps : KeepsTerms text kept terms
+  pub refused : NoRelations rest → NoRelations all
+
+pub record HypothesesAt (text : List ℕ) (ls : List Lexeme) (kept : List (List Item)) (rest : List Lexeme) : Type 0 where
+  pub terms : List Term
+  pub derived : Hypotheses ls terms rest
+  pub keeps : KeepsTerms text kept terms
+
+abbrev pub NoHypotheses : List Lexeme → Type 0
+NoHypotheses ls = (ts : List Term) (rest : List Lexeme) → Hypotheses ls ts rest → ⊥
 
 abbrev pub names_of : List ℕ → List Name → List (List ℕ)
 names_of text [] = []

@@ -2,5 +2,8 @@
 //! gives it or refuses tokens that are none.
 #![tactic(auto)]
 
+mod declarations;
 pub mod parse;
 pub mod syntax;
+mod terms;
+mod words;

@@ -19,7 +19,10 @@ pub struct Binder {
 /// A connective or a predicate of two terms.
 #[derive(Clone, Copy, Debug, PartialEq, Eq)]
 pub enum Binary {
+    /// The two sides are the same.
     Eq,
+    /// The two sides differ.
+    Ne,
 }
 
 /// A step of a term: it takes so many parts off the end of what was made, and makes one of them.

@@ -17,7 +17,7 @@ use Rattle.grind_theory.specs.Theories.{Given}
 use Rattle.grind_theory.specs.Evaluated.{Stack, step_at, item_parts, constant_names, constant_given, function_given, found, given_of, have_sorts, fitted, applied, joined, step_parts, pushed, stepped, evaluated}
 use Rattle.grind_signature.proofs.NameLists.{slice_get-position}
 use Rattle.grind_theory.proofs.Evaluation.{on}
-use Rattle.grind_theory.proofs.Elaboration.{the_node, have_sorts-true, applied-from, applied-none, applied-other}
+use Rattle.grind_theory.proofs.Fitting.{the_node, have_sorts-true, applied-from, applied-none, applied-other}
 
 constant_at : (constants : List Constant) (name : List ℕ) (c : ℕ) → position (bytes_eq name) (constant_names constants) ≡ Some c
     → (k : Constant) × (slice_get constants c ≡ Some k)

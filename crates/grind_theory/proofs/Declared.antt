@@ -13,33 +13,21 @@ use Rattle.grind_term_graph.specs.Placed.{placed, node_eq}
 use Rattle.grind_term_graph.proofs.Placing.{placed-present, placed-absent, list_any-decides}
 use Rattle.grind_term_graph.proofs.Tables.{sorts-append}
 use Rattle.grind_schemes.specs.declared.goal.Constant.{Constant}
+use Rattle.grind_syntax.specs.declared.syntax.Binary.{Binary}
 use Rattle.grind_syntax.specs.declared.syntax.Binary.TheVariants as binaries
 use Rattle.grind_syntax.specs.Syntax.{Term, Row, none, more, Apply, Two}
 use Rattle.grind_signature.specs.Signatures.{SignatureData, IsDeclaredAs, IsDeclared}
 use Rattle.grind_theory.specs.Theories.{Given, Gives}
-use Rattle.grind_theory.specs.Evaluated.{Made, Stack, applied, equated, made, made_row, given_of}
+use Rattle.grind_theory.specs.Evaluated.{Made, Stack, applied, equated, negated, compared, made, made_row, given_of}
 use Rattle.grind_theory.proofs.Evaluation.{on, and_then-some, map-some}
-use Rattle.grind_theory.proofs.Elaboration.{the_node, applied-some, equated-some, fitted-some}
-use Rattle.grind_theory.proofs.Keeping.{All-cons}
+use Rattle.grind_theory.proofs.Fitting.{the_node, equation, negation, applied-some, equated-some, equated-sort, fitted-some}
+use Rattle.grind_theory.proofs.Shapes.{sorts_below}
 use Rattle.grind_theory.proofs.Givens.{given_of-sound}
 
 -- a node is declared, and its arguments stand among the nodes
 pub record IsWell (s : SignatureData) (constants : List Constant) (nodes : List Node) (node : Node) : Type 0 where
   pub below : All (λ id. id < length nodes) node.args
   pub declared : IsDeclared s constants nodes node
-
-sort_below : (nodes : List Node) (id sort : ℕ) → sort_at nodes id ≡ Some sort → id < length nodes
-sort_below [] id sort e = absurd cc
-sort_below (n ∷ nodes) zero sort e = omega arith
-sort_below (n ∷ nodes) (suc id) sort e = let h = sort_below nodes id sort e in omega arith
-
-sorts_below : (nodes : List Node) (ids sorts : List ℕ) → map (sort_at nodes) ids ≡ map Some sorts → All (λ id. id < length nodes) ids
-sorts_below nodes [] sorts e = λ k d l. absurd (omega arith)
-sorts_below nodes (id ∷ ids) [] e = absurd cc
-sorts_below nodes (id ∷ ids) (s ∷ sorts) e =
-    let first : sort_at nodes id ≡ Some s = cc in
-    let rest : map (sort_at nodes) ids ≡ map Some sorts = cc in
-    All-cons (λ i. i < length nodes) id ids (sort_below nodes id s first) (sorts_below nodes ids sorts rest)
 
 module _ (s : SignatureData) (constants : List Constant) where
   declared_append : (nodes rest : List Node) (node : Node) (head : Head) → All (λ id. id < length nodes) node.args
@@ -97,6 +85,23 @@ module _ (s : SignatureData) (constants : List Constant) where
     declared = (h, at, refl, e ∙ ap (λ (x : Given). map Some x.args) is);
   })
 
+  equated-well : (limit : ℕ) (nodes : List Node) (a b : ℕ) (m : Made) → equated limit nodes (a ∷ b ∷ []) ≡ Some m → AreWell nodes → AreWell m.nodes
+  equated-well limit nodes a b m e all =
+      let q = equated-some limit nodes a b m e in
+      let f = fitted-some limit nodes (equation a b) m q.fits in
+      let pair : map (sort_at nodes) (a ∷ b ∷ []) ≡ map Some (q.sort ∷ q.sort ∷ []) = λ i. q.left i ∷ q.right i ∷ [] in
+      subst AreWell (sym f.nodes_are) (well_placed nodes (equation a b) all
+      (record { below = sorts_below nodes (a ∷ b ∷ []) (q.sort ∷ q.sort ∷ []) pair; declared = tt }))
+
+  compared-well : (limit : ℕ) (op : Binary) (nodes : List Node) (a b : ℕ) (m : Made) → compared op limit nodes (a ∷ b ∷ []) ≡ Some m → AreWell nodes → AreWell m.nodes
+  compared-well limit binaries.Eq nodes a b m e all = equated-well limit nodes a b m e all
+  compared-well limit binaries.Ne nodes a b m e all =
+      let s = and_then-some (equated limit nodes (a ∷ b ∷ [])) (negated limit) m e in
+      let f = fitted-some limit (s.0).nodes (negation (s.0).id) m s.2 in
+      let at = equated-sort limit nodes (a ∷ b ∷ []) s.0 s.1 in
+      subst AreWell (sym f.nodes_are) (well_placed (s.0).nodes (negation (s.0).id) (equated-well limit nodes a b s.0 s.1 all)
+      (record { below = sorts_below (s.0).nodes ((s.0).id ∷ []) (prop ∷ []) (λ i. at i ∷ []); declared = tt }))
+
   mutual
     pub made-well : (limit : ℕ) (t : Term) (nodes : List Node) (m : Made) → made (given_of s constants) limit nodes t ≡ Some m → AreWell nodes → AreWell m.nodes
     made-well limit (Apply name row) nodes m e all =
@@ -106,16 +111,11 @@ module _ (s : SignatureData) (constants : List Constant) where
         let f = fitted-some limit (a.0).nodes (the_node (p.given).head (p.given).sort (a.0).ids) m p.fits in
         subst AreWell (sym f.nodes_are) (well_placed (a.0).nodes (the_node (p.given).head (p.given).sort (a.0).ids) r
         (given_well (a.0).nodes (a.0).ids name p.given (given_of-sound s constants name p.given p.is) p.sorts))
-    made-well limit (Two binaries.Eq t u) nodes m e all =
-        let a = and_then-some (made (given_of s constants) limit nodes t) (λ (left : Made). option_and_then (λ (right : Made). equated limit right.nodes (left.id ∷ right.id ∷ [])) (made (given_of s constants) limit left.nodes u)) m e in
-        let b = and_then-some (made (given_of s constants) limit (a.0).nodes u) (λ (right : Made). equated limit right.nodes ((a.0).id ∷ right.id ∷ [])) m a.2 in
+    made-well limit (Two op t u) nodes m e all =
+        let a = and_then-some (made (given_of s constants) limit nodes t) (λ (left : Made). option_and_then (λ (right : Made). compared op limit right.nodes (left.id ∷ right.id ∷ [])) (made (given_of s constants) limit left.nodes u)) m e in
+        let b = and_then-some (made (given_of s constants) limit (a.0).nodes u) (λ (right : Made). compared op limit right.nodes ((a.0).id ∷ right.id ∷ [])) m a.2 in
         let x = made-well limit t nodes a.0 a.1 all in
-        let y = made-well limit u (a.0).nodes b.0 b.1 x in
-        let q = equated-some limit (b.0).nodes (a.0).id (b.0).id m b.2 in
-        let f = fitted-some limit (b.0).nodes (the_node heads.Eq prop ((a.0).id ∷ (b.0).id ∷ [])) m q.fits in
-        let pair : map (sort_at (b.0).nodes) ((a.0).id ∷ (b.0).id ∷ []) ≡ map Some (q.sort ∷ q.sort ∷ []) = λ i. q.left i ∷ q.right i ∷ [] in
-        subst AreWell (sym f.nodes_are) (well_placed (b.0).nodes (the_node heads.Eq prop ((a.0).id ∷ (b.0).id ∷ [])) y
-        (record { below = sorts_below (b.0).nodes ((a.0).id ∷ (b.0).id ∷ []) (q.sort ∷ q.sort ∷ []) pair; declared = tt }))
+        compared-well limit op (b.0).nodes (a.0).id (b.0).id m b.2 (made-well limit u (a.0).nodes b.0 b.1 x)
 
     made_row-well : (limit : ℕ) (row : Row) (nodes : List Node) (x : Stack) → made_row (given_of s constants) limit nodes row ≡ Some x → AreWell nodes → AreWell x.nodes
     made_row-well limit none nodes x e all =

@@ -11,262 +11,13 @@ use Rattle.grind_term_graph.specs.declared.head.Head.TheVariants as heads
 use Rattle.grind_term_graph.specs.Terms.{prop, sort_at}
 use Rattle.grind_term_graph.specs.Placed.{placed}
 use Rattle.grind_term_graph.proofs.Placing.{slice_get-placed, placed-grows, placed-absent}
+use Rattle.grind_syntax.specs.declared.syntax.Binary.{Binary}
 use Rattle.grind_syntax.specs.declared.syntax.Binary.TheVariants as binaries
 use Rattle.grind_syntax.specs.Syntax.{Term, Row, none, more, Apply, Two}
-use Rattle.grind_theory.specs.Theories.{Given, HasSort, HaveSorts, Interns, InternsRow}
-use Rattle.grind_theory.specs.Evaluated.{Made, Stack, is_sort, have_sorts, is_same_sort, fitted, applied, equated, made, made_row}
+use Rattle.grind_theory.specs.Theories.{Given, Relates, HasSort, HaveSorts, Interns, InternsRow}
+use Rattle.grind_theory.specs.Evaluated.{Made, Stack, is_sort, have_sorts, is_same_sort, fitted, applied, equated, negated, compared, made, made_row}
 use Rattle.grind_theory.proofs.Evaluation.{on, and_then-some, map-some}
-
--- a node of these parts, and one that was put among nodes
-abbrev pub the_node : Head → ℕ → List ℕ → Node
-the_node head sort args = record { head = head; sort = sort; args = args }
-
-abbrev pub put : List Node → ℕ → Made
-put nodes id = record { nodes = nodes; id = id }
-
-if-some : {A : Type 0} (b : Bool) (o : Option A) (a : A) → (if b then o else None) ≡ Some a → (b ≡ true) × (o ≡ Some a)
-if-some true o a e = (refl, e)
-if-some false o a e = absurd cc
-
--- the sort of a node stays as nodes are added
-pub sort_kept : (nodes rest : List Node) (id sort : ℕ) → sort_at nodes id ≡ Some sort → sort_at (nodes ++ rest) id ≡ Some sort
-sort_kept [] rest id sort e = absurd cc
-sort_kept (n ∷ nodes) rest zero sort e = e
-sort_kept (n ∷ nodes) rest (suc id) sort e = sort_kept nodes rest id sort e
-
-pub some_same : (a b : ℕ) → Some a ≡ Some b → a ≡ b
-some_same a b e = cc
-
-pub map-Some_same : (xs ys : List ℕ) → map Some xs ≡ map Some ys → xs ≡ ys
-map-Some_same [] [] e = refl
-map-Some_same [] (y ∷ ys) e = absurd cc
-map-Some_same (x ∷ xs) [] e = absurd cc
-map-Some_same (x ∷ xs) (y ∷ ys) e =
-    let p : Some x ≡ Some y = cc in
-    let q : map Some xs ≡ map Some ys = cc in
-    let a = some_same x y p in
-    let b = map-Some_same xs ys q in
-    cc
-
-pub nat_eq-same : (a b : ℕ) → nat_eq a b ≡ true → a ≡ b
-nat_eq-same a b e = search rules
-
-pub nat_eq-refl : (a : ℕ) → nat_eq a a ≡ true
-nat_eq-refl a = search rules
-
-is_sort-true : (o : Option ℕ) (sort : ℕ) → is_sort o sort ≡ true → o ≡ Some sort
-is_sort-true None sort e = absurd cc
-is_sort-true (Some own) sort e = ap Some (nat_eq-same own sort e)
-
-pub have_sorts-true : (nodes : List Node) (ids sorts : List ℕ) → have_sorts nodes ids sorts ≡ true → map (sort_at nodes) ids ≡ map Some sorts
-have_sorts-true nodes [] [] e = refl
-have_sorts-true nodes [] (s ∷ sorts) e = absurd cc
-have_sorts-true nodes (id ∷ ids) [] e = absurd cc
-have_sorts-true nodes (id ∷ ids) (s ∷ sorts) e =
-    let both = and_parts (is_sort (sort_at nodes id) s) (have_sorts nodes ids sorts) e in
-    let a = is_sort-true (sort_at nodes id) s both.0 in
-    let b = have_sorts-true nodes ids sorts both.1 in
-    λ i. a i ∷ b i
-
-pub have_sorts-from : (nodes : List Node) (ids sorts : List ℕ) → map (sort_at nodes) ids ≡ map Some sorts → have_sorts nodes ids sorts ≡ true
-have_sorts-from nodes [] [] e = refl
-have_sorts-from nodes [] (s ∷ sorts) e = absurd cc
-have_sorts-from nodes (id ∷ ids) [] e = absurd cc
-have_sorts-from nodes (id ∷ ids) (s ∷ sorts) e =
-    let p : sort_at nodes id ≡ Some s = cc in
-    let q : map (sort_at nodes) ids ≡ map Some sorts = cc in
-    rw (p, nat_eq-refl s) (have_sorts-from nodes ids sorts q)
-
-is_same_sort-true : (a b : Option ℕ) → is_same_sort a b ≡ true → (sort : ℕ) × (a ≡ Some sort) × (b ≡ Some sort)
-is_same_sort-true None b e = absurd cc
-is_same_sort-true (Some s) None e = absurd cc
-is_same_sort-true (Some s) (Some t) e = (s, refl, ap Some (sym (nat_eq-same s t e)))
-
-is_same_sort-from : (a b : Option ℕ) (sort : ℕ) → a ≡ Some sort → b ≡ Some sort → is_same_sort a b ≡ true
-is_same_sort-from a b sort p q = rw (p, q) (nat_eq-refl sort)
-
-le_from : (m n : ℕ) → nat_le m n ≡ true → m ≤ n
-le_from m n e = grind (arith, nat_tests)
-
-le_true : (m n : ℕ) → m ≤ n → nat_le m n ≡ true
-le_true m n h = grind (arith, nat_tests)
-
-le_false : (m n : ℕ) → n < m → nat_le m n ≡ false
-le_false m n h = grind (arith, nat_tests)
-
--- what was put among the nodes
-pub record IsPut (limit : ℕ) (nodes : List Node) (node : Node) (m : Made) : Type 0 where
-  pub nodes_are : m.nodes ≡ (placed nodes node).0
-  pub id_is : m.id ≡ (placed nodes node).1
-  pub small : length m.nodes ≤ limit
-
-pub fitted-some : (limit : ℕ) (nodes : List Node) (node : Node) (m : Made) → fitted limit nodes node ≡ Some m → IsPut limit nodes node m
-unfolding fitted
-fitted-some limit nodes node m e =
-    let s = if-some (nat_le (length (placed nodes node).0) limit) (Some (put (placed nodes node).0 (placed nodes node).1)) m e in
-    let is : put (placed nodes node).0 (placed nodes node).1 ≡ m = cc in
-    let small = le_from (length (placed nodes node).0) limit s.0 in
-    record {
-      nodes_are = ap (λ (x : Made). x.nodes) (sym is);
-      id_is = ap (λ (x : Made). x.id) (sym is);
-      small = rw (← is) small;
-    }
-
-pub fitted-from : (limit : ℕ) (nodes : List Node) (node : Node) → length (placed nodes node).0 ≤ limit
-    → fitted limit nodes node ≡ Some (put (placed nodes node).0 (placed nodes node).1)
-unfolding fitted
-fitted-from limit nodes node h = rw (le_true (length (placed nodes node).0) limit h) refl
-
--- a node that was put has its sort, and the nodes before stay
-put-sort : (limit : ℕ) (nodes : List Node) (node : Node) (m : Made) → IsPut limit nodes node m → sort_at m.nodes m.id ≡ Some node.sort
-put-sort limit nodes node m h = rw (h.nodes_are, h.id_is) (ap (λ o. option_map (λ (n : Node). n.sort) o) (slice_get-placed nodes node))
-
-put-grows : (limit : ℕ) (nodes : List Node) (node : Node) (m : Made) → IsPut limit nodes node m → (rest : List Node) × (m.nodes ≡ nodes ++ rest)
-put-grows limit nodes node m h = let g = placed-grows nodes node in (g.0, h.nodes_are ∙ g.1)
-
-pub record IsApplied (limit : ℕ) (nodes : List Node) (args : List ℕ) (o : Option Given) (m : Made) : Type 0 where
-  pub given : Given
-  pub is : o ≡ Some given
-  pub sorts : map (sort_at nodes) args ≡ map Some given.args
-  pub fits : fitted limit nodes (the_node given.head given.sort args) ≡ Some m
-
-pub applied-some : (limit : ℕ) (nodes : List Node) (args : List ℕ) (o : Option Given) (m : Made) → applied limit nodes args o ≡ Some m → IsApplied limit nodes args o m
-unfolding applied
-applied-some limit nodes args None m e = absurd cc
-applied-some limit nodes args (Some g) m e =
-    let s = if-some (have_sorts nodes args g.args) (fitted limit nodes (the_node g.head g.sort args)) m e in
-    record { given = g; is = refl; sorts = have_sorts-true nodes args g.args s.0; fits = s.1 }
-
-pub applied-from : (limit : ℕ) (nodes : List Node) (args : List ℕ) (g : Given) → map (sort_at nodes) args ≡ map Some g.args
-    → applied limit nodes args (Some g) ≡ fitted limit nodes (the_node g.head g.sort args)
-unfolding applied
-applied-from limit nodes args g h = rw (have_sorts-from nodes args g.args h) refl
-
-pub record IsEquated (limit : ℕ) (nodes : List Node) (a b : ℕ) (m : Made) : Type 0 where
-  pub sort : ℕ
-  pub left : sort_at nodes a ≡ Some sort
-  pub right : sort_at nodes b ≡ Some sort
-  pub fits : fitted limit nodes (the_node heads.Eq prop (a ∷ b ∷ [])) ≡ Some m
-
-pub equated-some : (limit : ℕ) (nodes : List Node) (a b : ℕ) (m : Made) → equated limit nodes (a ∷ b ∷ []) ≡ Some m → IsEquated limit nodes a b m
-unfolding equated
-equated-some limit nodes a b m e =
-    let s = if-some (is_same_sort (sort_at nodes a) (sort_at nodes b)) (fitted limit nodes (the_node heads.Eq prop (a ∷ b ∷ []))) m e in
-    let t = is_same_sort-true (sort_at nodes a) (sort_at nodes b) s.0 in
-    record { sort = t.0; left = t.1; right = t.2; fits = s.1 }
-
-pub equated-from : (limit : ℕ) (nodes : List Node) (a b sort : ℕ) → sort_at nodes a ≡ Some sort → sort_at nodes b ≡ Some sort
-    → equated limit nodes (a ∷ b ∷ []) ≡ fitted limit nodes (the_node heads.Eq prop (a ∷ b ∷ []))
-unfolding equated
-equated-from limit nodes a b sort p q = rw (is_same_sort-from (sort_at nodes a) (sort_at nodes b) sort p q) refl
-
--- an equation has two sides
-pub equated-long : (limit : ℕ) (nodes : List Node) (args : List ℕ) → (length args ≡ 2 → ⊥) → equated limit nodes args ≡ None
-unfolding equated
-equated-long limit nodes [] h = refl
-equated-long limit nodes (a ∷ []) h = refl
-equated-long limit nodes (a ∷ b ∷ []) h = absurd (h refl)
-equated-long limit nodes (a ∷ b ∷ c ∷ args) h = refl
-
--- and they have one sort
-pub equated-differ : (limit : ℕ) (nodes : List Node) (a b s t : ℕ) → sort_at nodes a ≡ Some s → sort_at nodes b ≡ Some t → (s ≡ t → ⊥)
-    → equated limit nodes (a ∷ b ∷ []) ≡ None
-unfolding equated
-equated-differ limit nodes a b s t p q h =
-    let e : nat_eq s t ≡ false = false_from_ne_true (nat_eq s t) (λ x. h (nat_eq-same s t x)) in
-    rw (p, q, e) refl
-
-pub two_items : (args : List ℕ) (a b : ℕ) → length args ≡ 2 → a ≡ get_or args 0 a → b ≡ get_or args 1 b → args ≡ a ∷ b ∷ []
-two_items [] a b h p q = absurd (omega arith)
-two_items (x ∷ []) a b h p q = absurd (omega arith)
-two_items (x ∷ y ∷ []) a b h p q = λ i. sym p i ∷ sym q i ∷ []
-two_items (x ∷ y ∷ z ∷ args) a b h p q = absurd (omega arith)
-
--- the sorts of fewer nodes, of more, and of a first one
-pub have_sorts-short : (nodes : List Node) (ids sorts later : List ℕ) (id : ℕ) → ids ≡ id ∷ later → length sorts ≡ 0 → have_sorts nodes ids sorts ≡ false
-have_sorts-short nodes ids [] later id e h = rw e refl
-have_sorts-short nodes ids (s ∷ sorts) later id e h = absurd (omega arith)
-
-pub have_sorts-step : (nodes : List Node) (ids sorts later others : List ℕ) (id sort own : ℕ) → ids ≡ id ∷ later → sorts ≡ sort ∷ others
-    → sort_at nodes id ≡ Some own → have_sorts nodes ids sorts ≡ (nat_eq own sort && have_sorts nodes later others)
-have_sorts-step nodes ids sorts later others id sort own p q e = rw (p, q, e) refl
-
-pub have_sorts-end : (nodes : List Node) (ids sorts : List ℕ) → length ids ≡ 0 → (b : Bool) → (b ≡ true → sorts ≡ []) → (sorts ≡ [] → b ≡ true) → b ≡ have_sorts nodes ids sorts
-have_sorts-end nodes [] [] h b f g = g refl
-have_sorts-end nodes [] (s ∷ sorts) h b f g = false_from_ne_true b (λ e. let x = f e in absurd cc)
-have_sorts-end nodes (id ∷ ids) sorts h b f g = absurd (omega arith)
-
--- the equation of two nodes of one sort
-pub equated-of : (limit : ℕ) (nodes : List Node) (args : List ℕ) (a b s t : ℕ) → args ≡ a ∷ b ∷ [] → sort_at nodes a ≡ Some s → sort_at nodes b ≡ Some t → s ≡ t
-    → equated limit nodes args ≡ fitted limit nodes (the_node heads.Eq prop args)
-equated-of limit nodes args a b s t e p q same =
-    rw e (equated-from limit nodes a b s p (q ∙ ap Some (sym same)))
-
-pub equated-apart : (limit : ℕ) (nodes : List Node) (args : List ℕ) (a b s t : ℕ) → args ≡ a ∷ b ∷ [] → sort_at nodes a ≡ Some s → sort_at nodes b ≡ Some t → nat_eq s t ≡ false
-    → equated limit nodes args ≡ None
-equated-apart limit nodes args a b s t e p q other =
-    rw e (equated-differ limit nodes a b s t p q (λ same. true≢false (sym (nat_eq-refl s) ∙ ap (nat_eq s) same ∙ other)))
-
-pub same_Err : {A E : Type 0} (x y : E) → ◌≡◌ {A = Result A E} (Err x) (Err y) → x ≡ y
-same_Err x y e = cc
-
--- a test of difference
-pub ne_true : (b r : Bool) → r ≡ not b → r ≡ true → b ≡ false
-ne_true true r e f = absurd cc
-ne_true false r e f = refl
-
-pub ne_false : (b r : Bool) → r ≡ not b → r ≡ false → b ≡ true
-ne_false true r e f = refl
-ne_false false r e f = absurd cc
-
-pub all_rest : {A : Type 0} (P : A → Type 0) (x : A) (xs later : List A) → xs ≡ x ∷ later → All P xs → All P later
-all_rest P x xs later e h = λ k d l. let whole = subst (All P) e h in whole (suc k) d (omega arith)
-
--- all but the first are below what all are below
-pub below_rest : (n id : ℕ) (ids later : List ℕ) → ids ≡ id ∷ later → All (λ i. i < n) ids → All (λ i. i < n) later
-below_rest n id ids later e h = λ k d l. let whole = subst (All (λ i. i < n)) e h in whole (suc k) d (omega arith)
-
-pub grows_twice : (a b c : List Node) → (r : List Node) × (b ≡ a ++ r) → (r : List Node) × (c ≡ b ++ r) → (r : List Node) × (c ≡ a ++ r)
-grows_twice a b c p q = (p.0 ++ q.0, q.1 ∙ ap (λ l. l ++ q.0) p.1 ∙ append_assoc a p.0 q.0)
-
-grows-length : (a b : List Node) → (r : List Node) × (b ≡ a ++ r) → length a ≤ length b
-grows-length a b p = let e = ap length p.1 in let l = length-append a p.0 in omega arith
-
-sort_grows : (a b : List Node) (id sort : ℕ) → (r : List Node) × (b ≡ a ++ r) → sort_at a id ≡ Some sort → sort_at b id ≡ Some sort
-sort_grows a b id sort p e = rw p.1 (sort_kept a p.0 id sort e)
-
-sorts_grow : (a b : List Node) (ids sorts : List ℕ) → (r : List Node) × (b ≡ a ++ r) → map (sort_at a) ids ≡ map Some sorts → map (sort_at b) ids ≡ map Some sorts
-sorts_grow a b [] [] p e = refl
-sorts_grow a b [] (s ∷ sorts) p e = absurd cc
-sorts_grow a b (id ∷ ids) [] p e = absurd cc
-sorts_grow a b (id ∷ ids) (s ∷ sorts) p e =
-    let x : sort_at a id ≡ Some s = cc in
-    let y : map (sort_at a) ids ≡ map Some sorts = cc in
-    let u = sort_grows a b id s p x in
-    let v = sorts_grow a b ids sorts p y in
-    λ i. u i ∷ v i
-
-placed-length : (mid after : List Node) (n : ℕ) (node : Node) → (after, n) ≡ placed mid node → length mid ≤ length after
-placed-length mid after n node e =
-    let g = placed-grows mid node in
-    let p : after ≡ mid ++ g.0 = ap (λ (x : List Node × ℕ). x.0) e ∙ g.1 in
-    grows-length mid after (g.0, p)
-
-pub fitted-placed : (limit : ℕ) (nodes after : List Node) (n : ℕ) (node : Node) → (after, n) ≡ placed nodes node → length after ≤ limit
-    → fitted limit nodes node ≡ Some (put after n)
-fitted-placed limit nodes after n node e h =
-    let p : after ≡ (placed nodes node).0 = ap (λ (x : List Node × ℕ). x.0) e in
-    let q : n ≡ (placed nodes node).1 = ap (λ (x : List Node × ℕ). x.1) e in
-    let l = ap length p in
-    fitted-from limit nodes node (omega arith) ∙ (λ i. Some (put (sym p i) (sym q i)))
-
--- a new node does not fit where there are as many as the limit
-pub fitted-full : (limit : ℕ) (nodes : List Node) (node : Node) → ¬ Contains nodes node → length nodes ≡ limit → fitted limit nodes node ≡ None
-unfolding fitted
-fitted-full limit nodes node new h =
-    let l = ap length (placed-absent nodes node new) in
-    let k = length-append nodes (node ∷ []) in
-    rw (le_false (length (placed nodes node).0) limit (omega arith)) refl
+use Rattle.grind_theory.proofs.Fitting.{the_node, put, some_same, map-Some_same, fitted-some, applied-some, applied-from, grows_twice, fitted-placed, compared-some, sort_grows, placed-length, put-sort, put-grows, relates-length, compared-from}
 
 module _ (gives : List ℕ → Given → Type 0) (given : List ℕ → Option Given) (limit : ℕ)
     (sound : (name : List ℕ) (g : Given) → given name ≡ Some g → gives name g)
@@ -301,22 +52,20 @@ module _ (gives : List ℕ → Given → Type 0) (given : List ℕ → Option Gi
           interns = (p.given, sound name p.given p.is, (a.0).nodes, (a.0).ids, r.interns, λ i. (f.nodes_are i, f.id_is i));
           grows = grows_twice nodes (a.0).nodes m.nodes r.grows (put-grows limit (a.0).nodes (the_node (p.given).head (p.given).sort (a.0).ids) m f);
         }
-    made-sound (Two binaries.Eq t u) nodes m e =
-        let a = and_then-some (made given limit nodes t) (λ (left : Made). option_and_then (λ (right : Made). equated limit right.nodes (left.id ∷ right.id ∷ [])) (made given limit left.nodes u)) m e in
-        let b = and_then-some (made given limit (a.0).nodes u) (λ (right : Made). equated limit right.nodes ((a.0).id ∷ right.id ∷ [])) m a.2 in
+    made-sound (Two op t u) nodes m e =
+        let a = and_then-some (made given limit nodes t) (λ (left : Made). option_and_then (λ (right : Made). compared op limit right.nodes (left.id ∷ right.id ∷ [])) (made given limit left.nodes u)) m e in
+        let b = and_then-some (made given limit (a.0).nodes u) (λ (right : Made). compared op limit right.nodes ((a.0).id ∷ right.id ∷ [])) m a.2 in
         let x = made-sound t nodes a.0 a.1 in
         let y = made-sound u (a.0).nodes b.0 b.1 in
-        let q = equated-some limit (b.0).nodes (a.0).id (b.0).id m b.2 in
+        let q = compared-some op limit (b.0).nodes (a.0).id (b.0).id m b.2 in
         let xs : Some x.sort ≡ Some q.sort = sym (sort_grows (a.0).nodes (b.0).nodes (a.0).id x.sort y.grows x.at) ∙ q.left in
         let ys : Some y.sort ≡ Some q.sort = sym y.at ∙ q.right in
-        let f = fitted-some limit (b.0).nodes (the_node heads.Eq prop ((a.0).id ∷ (b.0).id ∷ [])) m q.fits in
         record {
           sort = prop;
           has = (q.sort, subst (HasSort gives t) (some_same x.sort q.sort xs) x.has, subst (HasSort gives u) (some_same y.sort q.sort ys) y.has, refl);
-          at = put-sort limit (b.0).nodes (the_node heads.Eq prop ((a.0).id ∷ (b.0).id ∷ [])) m f;
-          interns = ((a.0).nodes, (a.0).id, x.interns, ((b.0).nodes, (b.0).id, y.interns, λ i. (f.nodes_are i, f.id_is i)));
-          grows = grows_twice nodes (a.0).nodes m.nodes x.grows (grows_twice (a.0).nodes (b.0).nodes m.nodes y.grows
-              (put-grows limit (b.0).nodes (the_node heads.Eq prop ((a.0).id ∷ (b.0).id ∷ [])) m f));
+          at = q.at;
+          interns = ((a.0).nodes, (a.0).id, x.interns, ((b.0).nodes, (b.0).id, y.interns, q.relates));
+          grows = grows_twice nodes (a.0).nodes m.nodes x.grows (grows_twice (a.0).nodes (b.0).nodes m.nodes y.grows q.grows);
         }
 
     pub made_row-sound : (row : Row) (nodes : List Node) (s : Stack) → made_row given limit nodes row ≡ Some s → AreMadeOf nodes row s
@@ -343,7 +92,7 @@ module _ (gives : List ℕ → Given → Type 0) (given : List ℕ → Option Gi
   pub HasSort-unique : (t : Term) (a b : ℕ) → HasSort gives t a → HasSort gives t b → a ≡ b
   HasSort-unique (Apply name row) a b p q =
       p.3 ∙ ap (λ (g : Given). g.sort) (same_given name p.0 q.0 p.1 q.1) ∙ sym q.3
-  HasSort-unique (Two binaries.Eq t u) a b p q = p.3 ∙ sym q.3
+  HasSort-unique (Two op t u) a b p q = p.3 ∙ sym q.3
 
   HaveSorts-unique : (row : Row) (xs ys : List ℕ) → HaveSorts gives row xs → HaveSorts gives row ys → xs ≡ ys
   HaveSorts-unique none [] [] p q = refl
@@ -362,10 +111,10 @@ module _ (gives : List ℕ → Given → Type 0) (given : List ℕ → Option Gi
         let a = InternsRow-length row nodes i.2 i.3 i.4 in
         let b = placed-length i.2 after n (the_node (i.0).head (i.0).sort i.3) i.5 in
         omega arith
-    Interns-length (Two binaries.Eq t u) nodes after n i =
+    Interns-length (Two op t u) nodes after n i =
         let a = Interns-length t nodes i.0 i.1 i.2 in
         let b = Interns-length u i.0 (i.3).0 (i.3).1 (i.3).2 in
-        let c = placed-length (i.3).0 after n (the_node heads.Eq prop (i.1 ∷ (i.3).1 ∷ [])) (i.3).3 in
+        let c = relates-length op (i.3).0 after i.1 (i.3).1 n (i.3).3 in
         omega arith
 
     InternsRow-length : (row : Row) (nodes after : List Node) (ids : List ℕ) → InternsRow gives nodes row after ids → length nodes ≤ length after
@@ -389,8 +138,8 @@ module _ (gives : List ℕ → Given → Type 0) (given : List ℕ → Option Gi
         ∙ ap (applied limit i.2 i.3) (complete name i.0 i.1)
         ∙ applied-from limit i.2 i.3 i.0 (s.at ∙ ap (map Some) u)
         ∙ fitted-placed limit i.2 after n (the_node (i.0).head (i.0).sort i.3) i.5 small
-    made-complete (Two binaries.Eq t u) nodes after sort n h i small =
-        let l = placed-length (i.3).0 after n (the_node heads.Eq prop (i.1 ∷ (i.3).1 ∷ [])) (i.3).3 in
+    made-complete (Two op t u) nodes after sort n h i small =
+        let l = relates-length op (i.3).0 after i.1 (i.3).1 n (i.3).3 in
         let k = Interns-length u i.0 (i.3).0 (i.3).1 (i.3).2 in
         let x = made-complete t nodes i.0 h.0 i.1 h.1 i.2 (omega arith) in
         let y = made-complete u i.0 (i.3).0 h.0 (i.3).1 h.2 (i.3).2 (omega arith) in
@@ -398,10 +147,9 @@ module _ (gives : List ℕ → Given → Type 0) (given : List ℕ → Option Gi
         let b = made-sound u i.0 (put (i.3).0 (i.3).1) y in
         let left_sort : sort_at (i.3).0 i.1 ≡ Some h.0 = sort_grows i.0 (i.3).0 i.1 h.0 b.grows (a.at ∙ ap Some (HasSort-unique t a.sort h.0 a.has h.1)) in
         let right_sort : sort_at (i.3).0 (i.3).1 ≡ Some h.0 = b.at ∙ ap Some (HasSort-unique u b.sort h.0 b.has h.2) in
-        ap (option_and_then (λ (left : Made). option_and_then (λ (right : Made). equated limit right.nodes (left.id ∷ right.id ∷ [])) (made given limit left.nodes u))) x
-        ∙ ap (option_and_then (λ (right : Made). equated limit right.nodes (i.1 ∷ right.id ∷ []))) y
-        ∙ equated-from limit (i.3).0 i.1 (i.3).1 h.0 left_sort right_sort
-        ∙ fitted-placed limit (i.3).0 after n (the_node heads.Eq prop (i.1 ∷ (i.3).1 ∷ [])) (i.3).3 small
+        ap (option_and_then (λ (left : Made). option_and_then (λ (right : Made). compared op limit right.nodes (left.id ∷ right.id ∷ [])) (made given limit left.nodes u))) x
+        ∙ ap (option_and_then (λ (right : Made). compared op limit right.nodes (i.1 ∷ right.id ∷ []))) y
+        ∙ compared-from op limit (i.3).0 after i.1 (i.3).1 n h.0 left_sort right_sort (i.3).3 small
 
     made_row-complete : (row : Row) (nodes after : List Node) (sorts ids : List ℕ) → HaveSorts gives row sorts → InternsRow gives nodes row after ids → length after ≤ limit
         → made_row given limit nodes row ≡ Some (on after ids)
@@ -414,12 +162,3 @@ module _ (gives : List ℕ → Given → Type 0) (given : List ℕ → Option Gi
         ap (option_and_then (λ (first : Made). option_map (λ (rest : Stack). on rest.nodes (first.id ∷ rest.ids)) (made_row given limit first.nodes row))) x
         ∙ ap (option_map (λ (rest : Stack). on rest.nodes (i.1 ∷ rest.ids))) y
         ∙ (λ j. Some (on after (sym (i.3).2 j)))
-
--- what was made by a name, whether a constant or a function, or by none
-pub applied-none : (limit : ℕ) (nodes : List Node) (args : List ℕ) (o : Option Given) → o ≡ None → applied limit nodes args o ≡ None
-unfolding applied
-applied-none limit nodes args o e = rw e refl
-
-pub applied-other : (limit : ℕ) (nodes : List Node) (args : List ℕ) (g : Given) → have_sorts nodes args g.args ≡ false → applied limit nodes args (Some g) ≡ None
-unfolding applied
-applied-other limit nodes args g e = rw e refl

@@ -5,7 +5,6 @@ use Rattle.std.proofs.Common.{rules, arith, sym, ap, ◌∙◌, append_assoc}
 use Rattle.std.proofs.lemmas.List.{length-append, append-nil}
 use Rattle.std.proofs.lemmas.Bool.Decides.{nat_tests}
 use Rattle.grind_term_graph.specs.declared.node.Node.{Node}
-use Rattle.grind_syntax.specs.declared.syntax.Binary.TheVariants as binaries
 use Rattle.grind_syntax.specs.Syntax.{Term, Row, none, more, Apply, Two, row_length}
 use Rattle.grind_syntax.specs.Kept.{Step, Named, Joined, steps_of, row_steps}
 use Rattle.grind_theory.specs.Theories.{Given}
@@ -88,16 +87,16 @@ module _ (given : List ℕ → Option Given) (limit : ℕ) where
         ∙ chain (made_row given limit nodes row) _ _ (λ s e.
         evaluated-step s.nodes ids s.ids (Named name (row_length row)) rest (sym (made_row-length row nodes s e)))
         ∙ sym (and_then-and_then (made_row given limit nodes row) _ _)
-    evaluated-steps_of (Two binaries.Eq a b) nodes ids rest =
+    evaluated-steps_of (Two op a b) nodes ids rest =
         ap (λ steps. evaluated given limit steps (on nodes ids))
-        (append_assoc (steps_of a) (steps_of b ++ Joined binaries.Eq ∷ []) rest
-        ∙ ap (λ steps. steps_of a ++ steps) (append_assoc (steps_of b) (Joined binaries.Eq ∷ []) rest))
-        ∙ evaluated-steps_of a nodes ids (steps_of b ++ (Joined binaries.Eq ∷ rest))
+        (append_assoc (steps_of a) (steps_of b ++ Joined op ∷ []) rest
+        ∙ ap (λ steps. steps_of a ++ steps) (append_assoc (steps_of b) (Joined op ∷ []) rest))
+        ∙ evaluated-steps_of a nodes ids (steps_of b ++ (Joined op ∷ rest))
         ∙ chain (made given limit nodes a) _ _ (λ p e.
-        evaluated-steps_of b p.nodes (ids ++ p.id ∷ []) (Joined binaries.Eq ∷ rest)
+        evaluated-steps_of b p.nodes (ids ++ p.id ∷ []) (Joined op ∷ rest)
         ∙ chain (made given limit p.nodes b) _ _ (λ q f.
-        ap (λ all. evaluated given limit (Joined binaries.Eq ∷ rest) (on q.nodes all)) (append_assoc ids (p.id ∷ []) (q.id ∷ []))
-        ∙ evaluated-step q.nodes ids (p.id ∷ q.id ∷ []) (Joined binaries.Eq) rest refl)
+        ap (λ all. evaluated given limit (Joined op ∷ rest) (on q.nodes all)) (append_assoc ids (p.id ∷ []) (q.id ∷ []))
+        ∙ evaluated-step q.nodes ids (p.id ∷ q.id ∷ []) (Joined op) rest refl)
         ∙ sym (and_then-and_then (made given limit p.nodes b) _ _))
         ∙ sym (and_then-and_then (made given limit nodes a) _ _)
 

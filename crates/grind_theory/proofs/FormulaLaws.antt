@@ -3,17 +3,16 @@ use Rattle.std.specs.Prelude.{◌≡◌, ◌≢◌, ℕ, ◌≤◌, false, List,
 use Rattle.std.specs.List.{AllPairs}
 use Rattle.std.proofs.Common.{sym, ap, subst, ◌∙◌, inl, inr, true≢false}
 use Rattle.grind_term_graph.specs.declared.node.Node.{Node}
-use Rattle.grind_term_graph.specs.declared.head.Head.TheVariants as heads
 use Rattle.grind_term_graph.specs.Terms.{prop, sort_at}
 use Rattle.grind_schemes.specs.declared.goal.Constant.{Constant}
-use Rattle.grind_syntax.specs.declared.syntax.Binary.TheVariants as binaries
 use Rattle.grind_syntax.specs.Syntax.{Term, Apply, Two}
 use Rattle.grind_signature.specs.Signatures.{SignatureData, IsSignature}
 use Rattle.grind_theory.specs.Theories.{Given, Gives, HasSort}
-use Rattle.grind_theory.specs.Evaluated.{Made, Stack, constant_names, given_of, applied, equated, made, made_row}
+use Rattle.grind_theory.specs.Evaluated.{Made, Stack, constant_names, given_of, applied, compared, made, made_row}
 use Rattle.grind_theory.specs.Formulas.{IsFormulaAs, AreApart}
 use Rattle.grind_theory.proofs.Evaluation.{and_then-some}
-use Rattle.grind_theory.proofs.Elaboration.{the_node, put, applied-some, equated-some, fitted-some, made-sound, made-complete, HasSort-unique, some_same, nat_eq-refl}
+use Rattle.grind_theory.proofs.Fitting.{the_node, put, applied-some, compared-some, fitted-some, some_same, nat_eq-refl}
+use Rattle.grind_theory.proofs.Elaboration.{made-sound, made-complete, HasSort-unique}
 use Rattle.grind_theory.proofs.Givens.{given_of-sound, given_of-complete}
 
 -- what a term makes is no more than fits
@@ -22,11 +21,10 @@ made-small given limit (Apply name row) nodes m e =
     let a = and_then-some (made_row given limit nodes row) (λ (s : Stack). applied limit s.nodes s.ids (given name)) m e in
     let p = applied-some limit (a.0).nodes (a.0).ids (given name) m a.2 in
     (fitted-some limit (a.0).nodes (the_node (p.given).head (p.given).sort (a.0).ids) m p.fits).small
-made-small given limit (Two binaries.Eq t u) nodes m e =
-    let a = and_then-some (made given limit nodes t) (λ (left : Made). option_and_then (λ (right : Made). equated limit right.nodes (left.id ∷ right.id ∷ [])) (made given limit left.nodes u)) m e in
-    let b = and_then-some (made given limit (a.0).nodes u) (λ (right : Made). equated limit right.nodes ((a.0).id ∷ right.id ∷ [])) m a.2 in
-    let q = equated-some limit (b.0).nodes (a.0).id (b.0).id m b.2 in
-    (fitted-some limit (b.0).nodes (the_node heads.Eq prop ((a.0).id ∷ (b.0).id ∷ [])) m q.fits).small
+made-small given limit (Two op t u) nodes m e =
+    let a = and_then-some (made given limit nodes t) (λ (left : Made). option_and_then (λ (right : Made). compared op limit right.nodes (left.id ∷ right.id ∷ [])) (made given limit left.nodes u)) m e in
+    let b = and_then-some (made given limit (a.0).nodes u) (λ (right : Made). compared op limit right.nodes ((a.0).id ∷ right.id ∷ [])) m a.2 in
+    (compared-some op limit (b.0).nodes (a.0).id (b.0).id m b.2).small
 
 same_made : (a b : Made) → ◌≡◌ {A = Option Made} (Some a) (Some b) → a ≡ b
 same_made a b x = cc

@@ -16,7 +16,8 @@ use Rattle.grind_theory.specs.Theories.{Gives, HasSort, AllFormulas, Interns, In
 use Rattle.grind_theory.specs.Evaluated.{Made, constant_names, given_of}
 use Rattle.grind_theory.specs.Formulas.{IsFormulaAs, AreFormulasAs, AreApart}
 use Rattle.grind_theory.specs.GoalReading.{AreTermsOf}
-use Rattle.grind_theory.proofs.Elaboration.{the_node, put, grows_twice, sort_kept, Interns-length}
+use Rattle.grind_theory.proofs.Fitting.{the_node, put, grows_twice, sort_kept}
+use Rattle.grind_theory.proofs.Elaboration.{Interns-length}
 use Rattle.grind_theory.proofs.Keeping.{All-cons}
 use Rattle.grind_theory.proofs.Givens.{place_unique, given_of-sound}
 use Rattle.grind_theory.proofs.Declared.{IsWell, AreWell, made-well}

@@ -10,7 +10,7 @@ use Rattle.grind_syntax.specs.Kept.{Step, Named, Joined, steps_of, KeepsStep, Ke
 use Rattle.grind_theory.specs.Theories.{Given}
 use Rattle.grind_theory.specs.Evaluated.{Made, Stack, step_at, IsItemPlaced, evaluated, made}
 use Rattle.grind_theory.proofs.Evaluation.{on, and_then-some, evaluated-steps_of}
-use Rattle.grind_theory.proofs.Elaboration.{put}
+use Rattle.grind_theory.proofs.Fitting.{put}
 
 step_at-kept : (text : List ℕ) (item : Item) (step : Step) → KeepsStep text item step → step_at text item ≡ step
 step_at-kept text (items.Apply name parts) (Named n count) h = let a = (h.0).1 in let b = h.1 in cc

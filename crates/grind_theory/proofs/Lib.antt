@@ -3,6 +3,7 @@ pub mod BinderLists
 pub mod Declared
 pub mod Elaboration
 pub mod Evaluation
+pub mod Fitting
 pub mod FormulaLaws
 pub mod FormulaLists
 pub mod Givens

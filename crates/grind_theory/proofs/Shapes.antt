@@ -1,5 +1,5 @@
 -- The nodes that are put into a table are well shaped.
-use Rattle.std.specs.Prelude.{◌≡◌, ℕ, suc, ◌<◌, ◌≤◌, true, List, [], ◌∷◌, length, All, Some, slice_get, refl}
+use Rattle.std.specs.Prelude.{◌≡◌, ℕ, zero, suc, ◌<◌, ◌≤◌, true, List, [], ◌∷◌, length, map, All, Some, slice_get, refl}
 use Rattle.std.proofs.Common.{arith, ap, get_or}
 use Rattle.std.proofs.lemmas.List.{length-map}
 use Rattle.std.proofs.lemmas.Bool.{and_parts}
@@ -10,7 +10,22 @@ use Rattle.grind_term_graph.specs.Terms.{prop, sort_at}
 use Rattle.grind_term_graph.specs.Shape.{WellShaped}
 use Rattle.grind_signature.specs.Signatures.{Function, SignatureData, IsSignature}
 use Rattle.grind_theory.specs.Evaluated.{is_sort, have_sorts}
-use Rattle.grind_theory.proofs.Elaboration.{the_node}
+use Rattle.grind_theory.proofs.Keeping.{All-cons}
+use Rattle.grind_theory.proofs.Fitting.{the_node}
+
+-- a node that has a sort stands among the nodes
+sort_below : (nodes : List Node) (id sort : ℕ) → sort_at nodes id ≡ Some sort → id < length nodes
+sort_below [] id sort e = absurd cc
+sort_below (n ∷ nodes) zero sort e = omega arith
+sort_below (n ∷ nodes) (suc id) sort e = let h = sort_below nodes id sort e in omega arith
+
+pub sorts_below : (nodes : List Node) (ids sorts : List ℕ) → map (sort_at nodes) ids ≡ map Some sorts → All (λ id. id < length nodes) ids
+sorts_below nodes [] sorts e = λ k d l. absurd (omega arith)
+sorts_below nodes (id ∷ ids) [] e = absurd cc
+sorts_below nodes (id ∷ ids) (s ∷ sorts) e =
+    let first : sort_at nodes id ≡ Some s = cc in
+    let rest : map (sort_at nodes) ids ≡ map Some sorts = cc in
+    All-cons (λ i. i < length nodes) id ids (sort_below nodes id s first) (sorts_below nodes ids sorts rest)
 
 -- a constant has no arguments
 pub constant_shaped : (nodes : List Node) (c sort : ℕ) (args : List ℕ) → args ≡ [] → WellShaped nodes (the_node (heads.Const c) sort args)

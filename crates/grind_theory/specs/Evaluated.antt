@@ -7,6 +7,7 @@ use Rattle.grind_term_graph.specs.declared.head.Head.TheVariants as heads
 use Rattle.grind_term_graph.specs.Terms.{prop, sort_at}
 use Rattle.grind_term_graph.specs.Placed.{placed}
 use Rattle.grind_schemes.specs.declared.goal.Constant.{Constant}
+use Rattle.grind_syntax.specs.declared.syntax.Binary.{Binary}
 use Rattle.grind_syntax.specs.declared.syntax.Binary.TheVariants as binaries
 use Rattle.grind_syntax.specs.declared.syntax.Item.{Item}
 use Rattle.grind_syntax.specs.declared.syntax.Item.TheVariants as items
@@ -102,6 +103,15 @@ equated limit nodes (a ∷ b ∷ []) =
     else None
 equated limit nodes _ = None
 
+-- the negation of a node
+abbrev pub negated : ℕ → Made → Option Made
+negated limit made = fitted limit made.nodes (record { head = heads.Not; sort = prop; args = made.id ∷ [] })
+
+-- the relation of the two nodes: their equation, or its negation
+abbrev pub compared : Binary → ℕ → List Node → List ℕ → Option Made
+compared binaries.Eq limit nodes args = equated limit nodes args
+compared binaries.Ne limit nodes args = option_and_then (negated limit) (equated limit nodes args)
+
 -- how many arguments the step takes
 abbrev pub step_parts : Step → ℕ
 step_parts (Named name parts) = parts
@@ -115,7 +125,7 @@ module _ (given : List ℕ → Option Given) (limit : ℕ) where
   -- the node of a step, from its arguments
   abbrev pub joined : List Node → List ℕ → Step → Option Made
   joined nodes args (Named name parts) = applied limit nodes args (given name)
-  joined nodes args (Joined binaries.Eq) = equated limit nodes args
+  joined nodes args (Joined op) = compared op limit nodes args
 
   -- a step takes its arguments off the end of the stack, and puts their node there
   unfoldable pub stepped : Stack → Step → Option Stack
@@ -134,8 +144,8 @@ module _ (given : List ℕ → Option Given) (limit : ℕ) where
     -- a term put among the nodes, with its sorts looked at
     pub made : List Node → Term → Option Made
     made nodes (Apply name row) = option_and_then (λ (s : Stack). applied limit s.nodes s.ids (given name)) (made_row nodes row)
-    made nodes (Two binaries.Eq a b) =
-        option_and_then (λ (left : Made). option_and_then (λ (right : Made). equated limit right.nodes (left.id ∷ right.id ∷ [])) (made left.nodes b))
+    made nodes (Two op a b) =
+        option_and_then (λ (left : Made). option_and_then (λ (right : Made). compared op limit right.nodes (left.id ∷ right.id ∷ [])) (made left.nodes b))
         (made nodes a)
 
     -- its parts

@@ -8,6 +8,7 @@ use Rattle.grind_term_graph.specs.Terms.{prop, opening as opening_nodes}
 use Rattle.grind_term_graph.specs.Placed.{placed}
 use Rattle.grind_schemes.specs.declared.goal.Constant.{Constant}
 use Rattle.grind_schemes.specs.Goals.{GoalData}
+use Rattle.grind_syntax.specs.declared.syntax.Binary.{Binary}
 use Rattle.grind_syntax.specs.declared.syntax.Binary.TheVariants as binaries
 use Rattle.grind_syntax.specs.Syntax.{Term, Row, none, more, Apply, Two, Bound, Declaration, Sort, Fun, Goal}
 use Rattle.grind_signature.specs.Signatures.{Function, SignatureData, opening, IsHeld, with_sort, with_function, with_label}
@@ -34,12 +35,22 @@ GivesFunction s name given =
 abbrev pub Gives : SignatureData → List Constant → List ℕ → Given → Type 0
 Gives s constants name given = GivesConstant constants name given ⊎ GivesFunction s name given
 
+-- the nodes before become the nodes after as the relation of nodes left and right is put among them: it is node n.
+-- Of two sides that differ, their equation is put there first, and then its negation
+abbrev pub Relates : Binary → List Node → ℕ → ℕ → List Node → ℕ → Type 0
+Relates binaries.Eq before left right after n =
+    (after, n) ≡ placed before (record { head = heads.Eq; sort = prop; args = left ∷ right ∷ [] })
+Relates binaries.Ne before left right after n =
+    (mid : List Node) × (same : ℕ) × ((mid, same) ≡ placed before (record { head = heads.Eq; sort = prop; args = left ∷ right ∷ [] }))
+    × ((after, n) ≡ placed mid (record { head = heads.Not; sort = prop; args = same ∷ [] }))
+
 module _ (gives : List ℕ → Given → Type 0) where
   abbrev mutual
-    -- the term has this sort: each name stands for something, and has arguments of its number and sorts
+    -- the term has this sort: each name stands for something, and has arguments of its number and sorts, and the two sides
+    -- of a relation have one sort
     pub HasSort : Term → ℕ → Type 0
     HasSort (Apply name row) sort = (given : Given) × gives name given × HaveSorts row given.args × (sort ≡ given.sort)
-    HasSort (Two binaries.Eq a b) sort = (side : ℕ) × HasSort a side × HasSort b side × (sort ≡ prop)
+    HasSort (Two op a b) sort = (side : ℕ) × HasSort a side × HasSort b side × (sort ≡ prop)
 
     -- the parts have these sorts, one each
     pub HaveSorts : Row → List ℕ → Type 0
@@ -54,10 +65,9 @@ module _ (gives : List ℕ → Given → Type 0) where
     Interns before (Apply name row) after n =
         (given : Given) × gives name given × (mid : List Node) × (args : List ℕ) × InternsRow before row mid args
         × ((after, n) ≡ placed mid (record { head = given.head; sort = given.sort; args = args }))
-    Interns before (Two binaries.Eq a b) after n =
+    Interns before (Two op a b) after n =
         (one : List Node) × (left : ℕ) × Interns before a one left
-        × ((two : List Node) × (right : ℕ) × Interns one b two right
-        × ((after, n) ≡ placed two (record { head = heads.Eq; sort = prop; args = left ∷ right ∷ [] })))
+        × ((two : List Node) × (right : ℕ) × Interns one b two right × Relates op two left right after n)
 
     -- the same for the parts, one after another
     pub InternsRow : List Node → Row → List Node → List ℕ → Type 0

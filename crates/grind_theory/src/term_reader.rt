@@ -6,7 +6,7 @@ ghost use Rattle.grind_term_graph.specs.Shape.{WellShaped};
 ghost use Rattle.grind_syntax.specs.Syntax.{Term as Tree};
 ghost use Rattle.grind_syntax.specs.Kept.{KeepsTerm, KeepsTerms};
 ghost use Rattle.grind_theory.specs.Formulas.{IsFormulaAs, AreFormulasAs, AreApart};
-ghost use Rattle.grind_theory.specs.Evaluated.{Made, step_at, IsItemPlaced, given_of, have_sorts, is_same_sort, fitted, applied, equated, item_parts, joined, stepped, evaluated};
+ghost use Rattle.grind_theory.specs.Evaluated.{Made, step_at, IsItemPlaced, given_of, have_sorts, is_same_sort, fitted, applied, equated, negated, compared, item_parts, joined, stepped, evaluated};
 
 use crate::constants::Constants;
 use grind_outside::List;
@@ -135,6 +135,36 @@ fn equate(alloc: Global, table: &mut TermTable, args: &[NodeId]) -> Result<NodeI
     place(alloc, table, Head::Eq, SortId::PROP, args)
 }
 
+/// Puts the negation of a formula into the table.
+fn negate(alloc: Global, table: &mut TermTable, formula: NodeId) -> Result<NodeId, TheoryRefusal>
+    requires { sort_at table.old.nodes formula ≡ Some prop }
+    ensures ok { IfOk result (λ id.
+        negated table.old.limit (record { nodes = table.old.nodes; id = formula }) ≡ Some (record { nodes = table.new.nodes; id = id })) }
+    ensures refused { result ≡ Err TheoryRefusal.Refused → negated table.old.limit (record { nodes = table.old.nodes; id = formula }) ≡ None }
+    ensures limit { table.new.limit ≡ table.old.limit }
+    ensures grows { (rest : List Term) × (table.new.nodes ≡ table.old.nodes ++ rest) }
+    ensures within { IfOk result (λ id. id < length table.new.nodes) }
+{
+    let args = [formula];
+    place(alloc, table, Head::Not, SortId::PROP, args.as_slice())
+}
+
+/// Puts the equation of two nodes into the table, and then its negation.
+fn differ(alloc: Global, table: &mut TermTable, args: &[NodeId]) -> Result<NodeId, TheoryRefusal>
+    requires { All (λ id. id < length table.old.nodes) args.now }
+    ensures ok { IfOk result (λ id.
+        compared Binary.Ne table.old.limit table.old.nodes args.now ≡ Some (record { nodes = table.new.nodes; id = id })) }
+    ensures refused { result ≡ Err TheoryRefusal.Refused → compared Binary.Ne table.old.limit table.old.nodes args.now ≡ None }
+    ensures limit { table.new.limit ≡ table.old.limit }
+    ensures grows { (rest : List Term) × (table.new.nodes ≡ table.old.nodes ++ rest) }
+    ensures within { IfOk result (λ id. id < length table.new.nodes) }
+{
+    match equate(alloc, table, args) {
+        Ok(same) => negate(alloc, table, same),
+        Err(refusal) => Err(refusal),
+    }
+}
+
 /// How many arguments an item takes.
 fn parts_of(item: &Item) -> usize
     ensures { result ≡ item_parts item.now }
@@ -171,6 +201,7 @@ fn join(
             apply(alloc, signature, constants, table, name, args)
         }
         Item::Two(Binary::Eq) => equate(alloc, table, args),
+        Item::Two(Binary::Ne) => differ(alloc, table, args),
     }
 }
 

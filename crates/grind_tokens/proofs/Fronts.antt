@@ -3,7 +3,7 @@ use Rattle.std.proofs.Common.{◌≡◌, ℕ, ◌<◌, ◌≤◌, List, [], ◌�
 use Rattle.std.specs.Prelude.{if◌then◌else◌, ◌==◌}
 use Rattle.std.specs.List.{AllByRecursion}
 use Rattle.grind_tokens.specs.declared.tokens.Sym.{Sym}
-use Rattle.grind_tokens.specs.declared.tokens.Sym.TheVariants.{Dot, Comma, Colon, LeftParen, RightParen, Eq, Turnstile}
+use Rattle.grind_tokens.specs.declared.tokens.Sym.TheVariants.{Dot, Comma, Colon, Semicolon, LeftParen, RightParen, Eq, Ne, Turnstile}
 use Rattle.grind_tokens.specs.declared.tokens.TokenKind.{TokenKind}
 use Rattle.grind_tokens.specs.declared.tokens.TokenKind.TheVariants.{Word, Symbol}
 use Rattle.grind_tokens.specs.Tokens.{IsBlank, IsNameStart, IsNameByte, IsCommentByte, IsName, spelling, dashes, Begins, Stops, EndsLine, IsSpace, IsComment, IsWord, IsSymbol}
@@ -32,9 +32,11 @@ symbol_first : (s : Sym) (rest : List ℕ) (b : ℕ) (bs : List ℕ) → spellin
 symbol_first Dot rest b bs e = let h : 46 ≡ b = cc in (λ k. omega arith, λ k. omega arith)
 symbol_first Comma rest b bs e = let h : 44 ≡ b = cc in (λ k. omega arith, λ k. omega arith)
 symbol_first Colon rest b bs e = let h : 58 ≡ b = cc in (λ k. omega arith, λ k. omega arith)
+symbol_first Semicolon rest b bs e = let h : 59 ≡ b = cc in (λ k. omega arith, λ k. omega arith)
 symbol_first LeftParen rest b bs e = let h : 40 ≡ b = cc in (λ k. omega arith, λ k. omega arith)
 symbol_first RightParen rest b bs e = let h : 41 ≡ b = cc in (λ k. omega arith, λ k. omega arith)
 symbol_first Eq rest b bs e = let h : 61 ≡ b = cc in (λ k. omega arith, λ k. omega arith)
+symbol_first Ne rest b bs e = let h : 33 ≡ b = cc in (λ k. omega arith, λ k. omega arith)
 symbol_first Turnstile rest b bs e = let h : 124 ≡ b = cc in (λ k. omega arith, λ k. omega arith)
 
 -- a list put in place of an equal one at the front of a text
@@ -99,9 +101,11 @@ symbol_not_empty : {A : Type 0} (s : Sym) → [] ≡ spelling s → A
 symbol_not_empty Dot e = cc
 symbol_not_empty Comma e = cc
 symbol_not_empty Colon e = cc
+symbol_not_empty Semicolon e = cc
 symbol_not_empty LeftParen e = cc
 symbol_not_empty RightParen e = cc
 symbol_not_empty Eq e = cc
+symbol_not_empty Ne e = cc
 symbol_not_empty Turnstile e = cc
 
 -- two lists of one length at the front of one text are one
@@ -119,16 +123,18 @@ same_front (a ∷ as') (b ∷ bs) x y l e =
 -- the symbol that bytes spell
 sym_of : List ℕ → Sym
 sym_of [] = Dot
-sym_of (b ∷ bs) = if b == 46 then Dot else (if b == 44 then Comma else (if b == 58 then Colon else (if b == 40 then LeftParen else (if b == 41 then RightParen else (if b == 61 then Eq else Turnstile)))))
+sym_of (b ∷ bs) = if b == 46 then Dot else (if b == 44 then Comma else (if b == 58 then Colon else (if b == 59 then Semicolon else (if b == 40 then LeftParen else (if b == 41 then RightParen else (if b == 61 then Eq else (if b == 33 then Ne else Turnstile)))))))
 
 sym_of-spelling : (s : Sym) → sym_of (spelling s) ≡ s
 unfolding sym_of
 sym_of-spelling Dot = refl
 sym_of-spelling Comma = refl
 sym_of-spelling Colon = refl
+sym_of-spelling Semicolon = refl
 sym_of-spelling LeftParen = refl
 sym_of-spelling RightParen = refl
 sym_of-spelling Eq = refl
+sym_of-spelling Ne = refl
 sym_of-spelling Turnstile = refl
 
 -- two symbols at the front of one text, each the longest, are one

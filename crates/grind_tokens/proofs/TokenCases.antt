@@ -2,7 +2,7 @@
 use Rattle.std.proofs.Common.{◌≡◌, ℕ, List, [], ◌∷◌, refl, inl, inr, arith}
 use Rattle.std.specs.Prelude.{codes}
 use Rattle.grind_tokens.specs.declared.tokens.Sym.{Sym}
-use Rattle.grind_tokens.specs.declared.tokens.Sym.TheVariants.{Dot, Comma, Colon, LeftParen, RightParen, Eq, Turnstile}
+use Rattle.grind_tokens.specs.declared.tokens.Sym.TheVariants.{Dot, Comma, Colon, Semicolon, LeftParen, RightParen, Eq, Ne, Turnstile}
 use Rattle.grind_tokens.specs.declared.tokens.TokenKind.TheVariants.{Word, Symbol}
 use Rattle.grind_tokens.specs.Tokens.{Begins, IsLongest, spelling, gap, token, at_end, TokensOf, HasNoTokens}
 use Rattle.grind_tokens.proofs.Fronts.{no_symbol}
@@ -13,9 +13,11 @@ dot_longest : IsLongest Dot (codes ".")
 dot_longest Dot b = omega arith
 dot_longest Comma b = omega arith
 dot_longest Colon b = omega arith
+dot_longest Semicolon b = omega arith
 dot_longest LeftParen b = omega arith
 dot_longest RightParen b = omega arith
 dot_longest Eq b = omega arith
+dot_longest Ne b = let e = b.1 in cc
 dot_longest Turnstile b = let e = b.1 in cc
 
 -- `a.` is a name and a dot
@@ -29,9 +31,11 @@ turnstile_longest : (text : List ℕ) → IsLongest Turnstile text
 turnstile_longest text Dot b = omega arith
 turnstile_longest text Comma b = omega arith
 turnstile_longest text Colon b = omega arith
+turnstile_longest text Semicolon b = omega arith
 turnstile_longest text LeftParen b = omega arith
 turnstile_longest text RightParen b = omega arith
 turnstile_longest text Eq b = omega arith
+turnstile_longest text Ne b = omega arith
 turnstile_longest text Turnstile b = omega arith
 
 -- `|---x` is `|-` and a comment
@@ -54,6 +58,10 @@ no_digit_symbol b bs one Colon h =
     let e = h.1 in
     let k : b ≡ 58 = cc in
     omega arith
+no_digit_symbol b bs one Semicolon h =
+    let e = h.1 in
+    let k : b ≡ 59 = cc in
+    omega arith
 no_digit_symbol b bs one LeftParen h =
     let e = h.1 in
     let k : b ≡ 40 = cc in
@@ -65,6 +73,10 @@ no_digit_symbol b bs one RightParen h =
 no_digit_symbol b bs one Eq h =
     let e = h.1 in
     let k : b ≡ 61 = cc in
+    omega arith
+no_digit_symbol b bs one Ne h =
+    let e = h.1 in
+    let k : b ≡ 33 = cc in
     omega arith
 no_digit_symbol b bs one Turnstile h =
     let e = h.1 in

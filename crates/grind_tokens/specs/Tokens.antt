@@ -2,7 +2,7 @@
 use Rattle.std.specs.Prelude.{◌≡◌, ◌≢◌, ℕ, ◌+◌, ◌<◌, ◌≤◌, ◌⊎◌, List, [], ◌∷◌, ◌++◌, length, slice_range, All, codes}
 use Rattle.std.specs.List.{AllByRecursion}
 use Rattle.grind_tokens.specs.declared.tokens.Sym.{Sym}
-use Rattle.grind_tokens.specs.declared.tokens.Sym.TheVariants.{Dot, Comma, Colon, LeftParen, RightParen, Eq, Turnstile}
+use Rattle.grind_tokens.specs.declared.tokens.Sym.TheVariants.{Dot, Comma, Colon, Semicolon, LeftParen, RightParen, Eq, Ne, Turnstile}
 use Rattle.grind_tokens.specs.declared.tokens.TokenKind.{TokenKind}
 use Rattle.grind_tokens.specs.declared.tokens.TokenKind.TheVariants.{Word, Symbol}
 use Rattle.grind_tokens.specs.declared.tokens.Token.{Token}
@@ -37,9 +37,11 @@ abbrev pub spelling : Sym → List ℕ
 spelling Dot = codes "."
 spelling Comma = codes ","
 spelling Colon = codes ":"
+spelling Semicolon = codes ";"
 spelling LeftParen = codes "("
 spelling RightParen = codes ")"
 spelling Eq = codes "="
+spelling Ne = codes "!="
 spelling Turnstile = codes "|-"
 
 -- with which a comment begins

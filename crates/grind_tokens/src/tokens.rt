@@ -19,12 +19,16 @@ pub enum Sym {
     Comma,
     /// `:`
     Colon,
+    /// `;`
+    Semicolon,
     /// `(`
     LeftParen,
     /// `)`
     RightParen,
     /// `=`
     Eq,
+    /// `!=`
+    Ne,
     /// `|-`
     Turnstile,
 }
@@ -170,9 +174,11 @@ fn longest_symbol(text: &[u8]) -> Option<Sym>
         [b'.', ..] => Some(Sym::Dot),
         [b',', ..] => Some(Sym::Comma),
         [b':', ..] => Some(Sym::Colon),
+        [b';', ..] => Some(Sym::Semicolon),
         [b'(', ..] => Some(Sym::LeftParen),
         [b')', ..] => Some(Sym::RightParen),
         [b'=', ..] => Some(Sym::Eq),
+        [b'!', b'=', ..] => Some(Sym::Ne),
         [b'|', b'-', ..] => Some(Sym::Turnstile),
         _ => None,
     }
@@ -183,7 +189,7 @@ fn symbol_len(symbol: Sym) -> usize
     ensures { result ≡ length (spelling symbol) }
 {
     match symbol {
-        Sym::Turnstile => 2,
+        Sym::Turnstile | Sym::Ne => 2,
         _ => 1,
     }
 }

@@ -22,7 +22,7 @@ const fn mark(symbol: Sym, start: u32, end: u32) -> Token {
 
 #[test]
 fn texts_with_tokens(rt: HostRuntime) -> Result<(), Fail> {
-    let rows: [Row; 14] = [
+    let rows: [Row; 15] = [
         (b"", &[]),
         (b" \t\r\n", &[]),
         (b"a.", &[word(0, 1), mark(Sym::Dot, 1, 2)]),
@@ -46,6 +46,16 @@ fn texts_with_tokens(rt: HostRuntime) -> Result<(), Fail> {
         (b"a\r\nb\tc", &[word(0, 1), word(3, 4), word(5, 6)]),
         (b"a--b\nc", &[word(0, 1), word(5, 6)]),
         (b"a -- b; 1 ! -", &[word(0, 1)]),
+        (
+            b"a!=b;=",
+            &[
+                word(0, 1),
+                mark(Sym::Ne, 1, 3),
+                word(3, 4),
+                mark(Sym::Semicolon, 4, 5),
+                mark(Sym::Eq, 5, 6),
+            ],
+        ),
         (b"--\n--", &[]),
         (b"--\r\na", &[word(4, 5)]),
         (b"|-a", &[mark(Sym::Turnstile, 0, 2), word(2, 3)]),
@@ -74,8 +84,8 @@ fn texts_without_tokens(rt: HostRuntime) {
         b"|",
         b"| -",
         b"|--1",
-        b"a;",
-        b"!=",
+        b"a!",
+        b"! =",
         b"\0",
         b"\x0b",
         b"\xc8",

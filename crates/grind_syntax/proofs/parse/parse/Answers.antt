@@ -1,7 +1,8 @@
 use Rattle.std.proofs.Common.{◌≡◌, ◌<◌, ◌^◌, length, [], sym, subst, arith, rules}
 use Rattle.grind_syntax.specs.Grammar.{lexemes}
 use Rattle.grind_syntax.specs.Reading.{Placed, NoDeclaration, NoDeclarations, FileSoFar}
-use Rattle.grind_syntax.proofs.Steps.{placed, no_lexemes, file_start, file_more, file_end, no_file}
+use Rattle.grind_syntax.proofs.DeclarationSteps.{placed, file_start, file_more, file_end, no_file}
+use Rattle.grind_syntax.proofs.TermSteps.{no_lexemes}
 use Rattle.grind_syntax.proofs.parse.parse.Goals as goal
 
 pub loop-rest-init : goal.loop-rest-init

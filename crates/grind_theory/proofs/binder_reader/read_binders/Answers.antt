@@ -1,5 +1,5 @@
 use Rattle.std.proofs.Common.{sym, ap, subst, ◌≡◌, ◌∷◌, Err}
-use Rattle.grind_theory.proofs.Elaboration.{same_Err}
+use Rattle.grind_theory.proofs.Fitting.{same_Err}
 use Rattle.grind_theory.proofs.BinderLists.{IsBound, differ-names, binds-apart, binds-labelled, bound-start, bound-next, bound-end, bound-refused, bound-binder}
 use Rattle.grind_theory.proofs.binder_reader.read_binders.Goals as goal
 

@@ -1,7 +1,7 @@
 use Rattle.std.proofs.Common.{arith, sym, ap, ◌∙◌, ◌≡◌, ◌<◌, ◌≤◌, length, map, Err}
 use Rattle.std.proofs.lemmas.List.{length-map}
 use Rattle.grind_syntax.specs.Kept.{name_of}
-use Rattle.grind_theory.proofs.Elaboration.{same_Err}
+use Rattle.grind_theory.proofs.Fitting.{same_Err}
 use Rattle.grind_theory.proofs.SortLists.{sorts-length, sorts-below}
 use Rattle.grind_theory.proofs.Taking.{fun-args, fun-taken, fun-many, fun-no_own, fun-no_args, fun-held}
 use Rattle.grind_theory.proofs.elaborate.declare_fun.Goals as goal

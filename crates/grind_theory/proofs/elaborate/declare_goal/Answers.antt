@@ -1,5 +1,5 @@
 use Rattle.grind_theory.proofs.Taking.{goal-taken, goal-held, goal-declared}
-use Rattle.grind_theory.proofs.Elaboration.{same_Err}
+use Rattle.grind_theory.proofs.Fitting.{same_Err}
 use Rattle.grind_theory.proofs.elaborate.declare_goal.Goals as goal
 
 pub returns-in-Ok-push-clause-ok : goal.returns-in-Ok-push-clause-ok

@@ -1,6 +1,6 @@
 use Rattle.std.proofs.Common.{sym, ap, subst, ◌≡◌, ◌∷◌, Err}
 use Rattle.grind_syntax.specs.Kept.{KeepsAll}
-use Rattle.grind_theory.proofs.Elaboration.{same_Err}
+use Rattle.grind_theory.proofs.Fitting.{same_Err}
 use Rattle.grind_theory.proofs.Underway.{underway-start, underway-kept, underway-next, underway-end, underway-refused}
 use Rattle.grind_theory.proofs.elaborate.elaborate.Goals as goal
 

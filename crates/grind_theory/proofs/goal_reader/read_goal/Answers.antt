@@ -3,7 +3,7 @@ use Rattle.grind_schemes.specs.Labels.{IsLabel}
 use Rattle.grind_schemes.specs.Goals.{GoalData, goal_data}
 use Rattle.grind_signature.specs.Signatures.{IsHeld, IsDeclared}
 use Rattle.grind_theory.specs.Theories.{IsGoalOf}
-use Rattle.grind_theory.proofs.Elaboration.{same_Err}
+use Rattle.grind_theory.proofs.Fitting.{same_Err}
 use Rattle.grind_theory.proofs.Labelled.{name_label}
 use Rattle.grind_theory.proofs.GoalLaws.{BindsAll-unique, terms-well, terms-kept, terms-goal, goal-terms}
 use Rattle.grind_theory.proofs.goal_reader.read_goal.Goals as goal

@@ -2,7 +2,7 @@ use Rattle.std.proofs.Common.{sym, ap, subst, ◌∙◌, ◌≡◌, Err}
 use Rattle.grind_term_graph.specs.Terms.{Terms, opening}
 use Rattle.grind_theory.specs.Theories.{most_nodes}
 use Rattle.grind_theory.specs.Formulas.{IsFormulaAs, AreFormulasAs}
-use Rattle.grind_theory.proofs.Elaboration.{same_Err}
+use Rattle.grind_theory.proofs.Fitting.{same_Err}
 use Rattle.grind_theory.proofs.GoalLaws.{terms-last}
 use Rattle.grind_theory.proofs.goal_reader.read_goal_terms.Goals as goal
 

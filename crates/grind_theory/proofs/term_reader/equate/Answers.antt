@@ -1,5 +1,5 @@
 use Rattle.std.proofs.Common.{◌∙◌, ◌≡◌, true, false, nat_eq}
-use Rattle.grind_theory.proofs.Elaboration.{equated-long, equated-of, equated-apart, two_items, ne_true, ne_false, nat_eq-same}
+use Rattle.grind_theory.proofs.Fitting.{equated-long, equated-of, equated-apart, two_items, ne_true, ne_false, nat_eq-same}
 use Rattle.grind_theory.proofs.term_reader.equate.Goals as goal
 
 pub returns-then-args-ne2-clause-refused : goal.returns-then-args-ne2-clause-refused

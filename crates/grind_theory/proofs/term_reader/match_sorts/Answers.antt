@@ -1,5 +1,5 @@
 use Rattle.std.proofs.Common.{sym, ◌∙◌, ◌≡◌, ◌∷◌, true, nat_eq, length}
-use Rattle.grind_theory.proofs.Elaboration.{ne_false, have_sorts-step, below_rest}
+use Rattle.grind_theory.proofs.Fitting.{ne_false, have_sorts-step, below_rest}
 use Rattle.grind_theory.proofs.term_reader.match_sorts.Goals as goal
 
 pub loop-id-preserved : goal.loop-id-preserved

@@ -1,7 +1,7 @@
 use Rattle.std.proofs.Common.{arith, ap, subst, ◌∙◌, ◌≡◌, None, Err}
 use Rattle.grind_term_graph.specs.Placed.{placed}
 use Rattle.grind_theory.specs.Evaluated.{fitted}
-use Rattle.grind_theory.proofs.Elaboration.{the_node, fitted-placed, fitted-full, same_Err}
+use Rattle.grind_theory.proofs.Fitting.{the_node, fitted-placed, fitted-full, same_Err}
 use Rattle.grind_theory.proofs.term_reader.place.Goals as goal
 
 pub returns-in-Ok-answer-clause-ok : goal.returns-in-Ok-answer-clause-ok

@@ -1,6 +1,6 @@
 use Rattle.std.proofs.Common.{ap, ◌∙◌, ◌≡◌, true, false, nat_eq, Some, Err}
 use Rattle.grind_theory.specs.Evaluated.{given_of}
-use Rattle.grind_theory.proofs.Elaboration.{ne_true, ne_false, nat_eq-same, same_Err}
+use Rattle.grind_theory.proofs.Fitting.{ne_true, ne_false, nat_eq-same, same_Err}
 use Rattle.grind_theory.proofs.Keeping.{items_placed, made-evaluated, evaluated-made}
 use Rattle.grind_theory.proofs.FormulaLaws.{formula-sound, formula-complete, formula-other}
 use Rattle.grind_syntax.specs.Kept.{steps_of}

@@ -1,5 +1,5 @@
 use Rattle.std.proofs.Common.{sym, ap, subst, ◌∙◌, ◌≡◌, ◌∷◌, Err, refl}
-use Rattle.grind_theory.proofs.Elaboration.{same_Err}
+use Rattle.grind_theory.proofs.Fitting.{same_Err}
 use Rattle.grind_syntax.specs.Kept.{KeepsTerm}
 use Rattle.grind_theory.specs.Formulas.{IsFormulaAs}
 use Rattle.grind_theory.proofs.FormulaLists.{IsThrough, through-start, through-next, through-end, through-refused, through-term}

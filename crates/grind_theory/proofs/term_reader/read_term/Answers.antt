@@ -1,7 +1,7 @@
 use Rattle.std.proofs.Common.{ap, subst, ◌∙◌, ◌≡◌, ◌∷◌, map, Some}
 use Rattle.grind_theory.specs.Evaluated.{IsItemPlaced, step_at, given_of, stepped}
 use Rattle.grind_theory.proofs.Evaluation.{on}
-use Rattle.grind_theory.proofs.Elaboration.{all_rest}
+use Rattle.grind_theory.proofs.Fitting.{all_rest}
 use Rattle.grind_theory.proofs.Applying.{evaluated-next}
 use Rattle.grind_theory.proofs.term_reader.read_term.Goals as goal
 

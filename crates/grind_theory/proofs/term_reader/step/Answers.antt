@@ -1,6 +1,6 @@
 use Rattle.std.proofs.Common.{arith, ap, subst, ◌∙◌, ◌≡◌, ◌-◌, ◌++◌, ◌∷◌, [], drop, Some, None, Err}
 use Rattle.grind_theory.specs.Evaluated.{step_at, given_of, joined}
-use Rattle.grind_theory.proofs.Elaboration.{same_Err}
+use Rattle.grind_theory.proofs.Fitting.{same_Err}
 use Rattle.grind_theory.proofs.Applying.{step_parts-step_at, stepped-short, stepped-some, stepped-none}
 use Rattle.grind_theory.proofs.term_reader.step.Goals as goal
 
