@@ -2,13 +2,15 @@
 use Rattle.std.proofs.Common.{◌≡◌, ℕ, zero, suc, ◌<◌, ◌+◌, ◌≤◌, List, [], ◌∷◌, ◌++◌, length, get_or, Option, Some, IsSome, All, refl, ap, sym, subst, ◌∙◌, inl, inr, append-nil, arith}
 use Rattle.std.specs.Prelude.{slice_get, Contains}
 use Rattle.std.specs.Option.{option_map, IsSomeAnd}
-use Rattle.std.proofs.lemmas.Option.{slice_get-get_or, slice_get_within}
+use Rattle.std.proofs.lemmas.Option.{slice_get-get_or, slice_get_within, get_or_from_slice_get}
 use Rattle.std.proofs.lemmas.List.Elements.{All-nil, All-cons, All-from_recursion}
 use Rattle.grind_term_graph.specs.declared.node.Node.{Node}
 use Rattle.grind_term_graph.specs.Terms.{Terms, prop, sort_at}
-use Rattle.grind_term_graph.specs.Shape.{IsTermTable}
+use Rattle.grind_term_graph.specs.Shape.{IsTable, IsBegun, IsTermTable}
+use Rattle.grind_value_tables.specs.Laws.{TypedIsTrue}
 use Rattle.grind_schemes.specs.Goals.{GoalData, IsGoal}
 use Rattle.grind_schemes.specs.declared.lemmas.Lemmas.{Lemmas}
+use Rattle.grind_proof_kernel.specs.declared.proof.Branch.{Branch}
 use Rattle.grind_proof_kernel.specs.declared.proof.Line.{Line}
 use Rattle.grind_proof_kernel.specs.declared.proof.Proof.{Proof}
 use Rattle.grind_proof_kernel.specs.Rules.{IsEquation}
@@ -33,6 +35,10 @@ pub sort_at-bound : (nodes : List Node) (n s : ℕ) → sort_at nodes n ≡ Some
 sort_at-bound [] n s e = cc
 sort_at-bound (node ∷ nodes) zero s e = omega arith
 sort_at-bound (node ∷ nodes) (suc n) s e = let h = sort_at-bound nodes n s e in omega arith
+
+-- what stands at a place of a list is one of its items
+contains_at : (xs : List ℕ) (x k : ℕ) → slice_get xs k ≡ Some x → Contains xs x
+contains_at xs x k at = (k, slice_get_within xs k x at, get_or_from_slice_get xs k x x at)
 
 -- a branch with no other is good where its last line claims a contradiction
 good_root : (terms : Terms) (lines : List Line) → IsClosed lines 0 → (b : ℕ) → b ≤ 0 → IsGoodBranch (proof_of terms lines) b
@@ -81,3 +87,72 @@ module _ (lemmas : Lemmas) (goal : GoalData) (terms : Terms) (show : sort_at ter
 
     pub assumed_typed : Typed lemmas goal (proof_of terms (assumed_lines number goal.show))
     assumed_typed = record { branches = good_root terms _ refl; lines = assumed_line }
+
+-- each line has as many premises as its rule takes
+abbrev Counted : List Line → Type 0
+Counted lines = All (λ (line : Line). TakesPremises line.rule (length line.premises)) lines
+
+counted_reflexive : (show side : ℕ) → Counted (reflexive_lines show side)
+counted_reflexive show side =
+    All-from_recursion (λ (line : Line). TakesPremises line.rule (length line.premises)) (reflexive_lines show side)
+    (refl, (refl, (refl, (inr refl, tt))))
+
+counted_assumed : (number show : ℕ) → Counted (assumed_lines number show)
+counted_assumed number show =
+    All-from_recursion (λ (line : Line). TakesPremises line.rule (length line.premises)) (assumed_lines number show)
+    (refl, (refl, (inr refl, tt)))
+
+-- what is known of a goal: what it keeps, its table, and what a typed proof means
+pub record Known (goal : GoalData) : Type 0 where
+  pub keeps : IsGoal goal
+  pub table : IsTable [] goal.terms.nodes
+  pub begun : IsBegun goal.terms.nodes
+  pub meaning : TypedIsTrue
+
+-- the goal's terms in a table as wide as that of a proof
+abbrev pub wide_terms : GoalData → Terms
+wide_terms goal = record { nodes = goal.terms.nodes; limit = widest }
+
+module _ (lemmas : Lemmas) (goal : GoalData) (known : Known goal) where
+  is_wide : IsTermTable goal.terms.nodes widest
+  is_wide = let size = known.keeps.size in (known.table, known.begun, omega arith, omega arith)
+
+  true_everywhere : (lines : List Line) → Typed lemmas goal (proof_of (wide_terms goal) lines) → IsTrueEverywhere goal (proof_of (wide_terms goal) lines)
+  true_everywhere lines typed v respects =
+      known.meaning lemmas goal (proof_of (wide_terms goal) lines) v known.keeps
+      (record { table = is_wide; begins = ([], sym (append-nil goal.terms.nodes)); respects = respects }) typed
+
+  proves : (lines : List Line) → IsEvident goal → Typed lemmas goal (proof_of (wide_terms goal) lines) → Counted lines → ProvesGoal lemmas goal (proof_of (wide_terms goal) lines)
+  proves lines evident typed counts = record {
+    evident = evident;
+    typed = typed;
+    true_everywhere = true_everywhere lines typed;
+    nodes = refl;
+    limit = refl;
+    counts = counts;
+  }
+
+  -- a proof of these parts proves the goal
+  of_parts : (proof : Proof) (lines : List Line) → proof.terms ≡ wide_terms goal → proof.branches ≡ [] → proof.lines ≡ lines
+      → ProvesGoal lemmas goal (proof_of (wide_terms goal) lines) → ProvesGoal lemmas goal proof
+  of_parts proof lines terms branches lines_are made =
+      let full : Terms → List Branch → List Line → Proof = λ t bs ls. record { terms = t; branches = bs; lines = ls } in
+      subst (λ (t : Terms). ProvesGoal lemmas goal (full t proof.branches proof.lines)) (sym terms)
+      (subst (λ (bs : List Branch). ProvesGoal lemmas goal (full (wide_terms goal) bs proof.lines)) (sym branches)
+      (subst (λ (ls : List Line). ProvesGoal lemmas goal (full (wide_terms goal) [] ls)) (sym lines_are) made))
+
+  pub ProvesGoal-reflexive : (proof : Proof) (side : ℕ) → proof.terms ≡ wide_terms goal → proof.branches ≡ [] → proof.lines ≡ reflexive_lines goal.show side
+      → side < length goal.terms.nodes → IsEquation goal.terms.nodes goal.show side side → ProvesGoal lemmas goal proof
+  ProvesGoal-reflexive proof side terms branches lines bound equation =
+      of_parts proof (reflexive_lines goal.show side) terms branches lines
+      (proves (reflexive_lines goal.show side) (inr (side, equation))
+      (reflexive_typed lemmas goal (wide_terms goal) known.keeps.show side (sort_at-within goal.terms.nodes side bound) equation)
+      (counted_reflexive goal.show side))
+
+  pub ProvesGoal-assumed : (proof : Proof) (number : ℕ) → proof.terms ≡ wide_terms goal → proof.branches ≡ [] → proof.lines ≡ assumed_lines number goal.show
+      → IsAssumedAs goal number → ProvesGoal lemmas goal proof
+  ProvesGoal-assumed proof number terms branches lines assumed =
+      of_parts proof (assumed_lines number goal.show) terms branches lines
+      (proves (assumed_lines number goal.show) (inl (contains_at goal.hyps goal.show assumed.0 assumed.2))
+      (assumed_typed lemmas goal (wide_terms goal) known.keeps.show number assumed)
+      (counted_assumed number goal.show))

@@ -11,6 +11,7 @@ use grind_proof_kernel::{Claim, Line, Proof, Rule};
 use grind_report::report::Outcome;
 use grind_schemes::{Goal, Lemmas};
 use grind_term_graph::{Head, NodeId};
+use grind_value_tables::laws::typed_is_true;
 use std::alloc::Global;
 
 /// What becomes of a goal: it is closed, by a proof that is typed for it, exactly where its conclusion
@@ -38,6 +39,7 @@ fn assumed_as(goal: &Goal) -> Option<u32>
     ensures some { IfSome result (IsAssumedAs goal.now) }
     ensures none { IsNone result → ¬ Contains goal.now.hyps goal.now.show }
 {
+    let _count = goal.hyps.len();
     let place = place_of(goal.hyps(), goal.show())?;
     Some(place as u32 + 1)
 }
@@ -89,6 +91,7 @@ fn prove_assumed(
     requires { IsAssumedAs goal.now number }
     ensures { IfOk result (ProvesGoal lemmas.now goal.now) }
 {
+    typed_is_true();
     let _name = goal.name();
     let _nodes = goal.terms().len();
     let show = goal.show();
@@ -113,6 +116,7 @@ fn prove_reflexive(
     requires bound { side < length goal.now.terms.nodes }
     ensures { IfOk result (ProvesGoal lemmas.now goal.now) }
 {
+    typed_is_true();
     let _name = goal.name();
     let _nodes = goal.terms().len();
     let show = goal.show();
