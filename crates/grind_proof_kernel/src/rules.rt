@@ -1,5 +1,6 @@
 //! What each rule lets a line claim: one function for each rule, named as the rule is.
-ghost use Rattle.std.specs.Prelude.{IsTrue, ◌↔◌, ◌<◌, length, All, IfOk, option_copied};
+ghost use Rattle.std.specs.Prelude.{IsTrue, ◌↔◌, ◌≢◌, ◌<◌, ℕ, List, length, All, IfOk, IsOk, option_copied};
+ghost use Rattle.grind_proof_kernel.specs.declared.proof.Rule.TheVariants.{Table};
 ghost use Rattle.grind_proof_kernel.specs.Claims.{IsFormed, claims_at};
 ghost use Rattle.grind_proof_kernel.specs.Rules.{Says};
 
@@ -36,8 +37,9 @@ pub fn says(
 ) -> Result<bool, Memory>
     requires formed { IsFormed terms.now.nodes line.now.claim }
     requires premises { All (λ p. p < length lines.now) line.now.premises }
-    ensures { IfOk result (λ yes. IsTrue yes ↔ Says goal.now terms.now.nodes (option_copied literal.entry) line.now.rule
+    ensures exact { IfOk result (λ yes. IsTrue yes ↔ Says goal.now terms.now.nodes (option_copied literal.entry) line.now.rule
         (claims_at lines.now line.now.premises) line.now.claim) }
+    ensures ready { ((free : List ℕ) → line.now.rule ≢ Table free) → IsOk result }
 {
     let premises = line.premises.as_slice();
     let claim = &line.claim;
