@@ -1,15 +1,14 @@
 -- No branch of a typed proof assumes only what is true, where the hypotheses are true and the conclusion is false.
 use Rattle.std.specs.Prelude.{◌≡◌, ◌==◌, ℕ, zero, suc, ◌+◌, ◌-◌, ◌<◌, ◌≤◌, ◌⊎◌, Bool, true, false, cond, List, [], ◌∷◌, ◌++◌, Option, Some, All, find, length, reverse, slice_get, slice_index_or, ℤ, refl}
-use Rattle.std.specs.Option.{IsSomeAnd, option_map}
+use Rattle.std.specs.Option.{option_map}
 use Rattle.std.proofs.Common.{arith, sym, ap, ◌∙◌, subst, inl, inr}
 use Rattle.std.proofs.lemmas.Bool.Decides.{Decides-eqb}
 use Rattle.std.proofs.lemmas.List.{get_or-reverse, length-reverse}
 use Rattle.std.proofs.lemmas.List.Elements.{All-head, All-tail}
-use Rattle.std.proofs.lemmas.Option.{same_Some, none-some, slice_get-get_or, slice_get_within}
+use Rattle.std.proofs.lemmas.Option.{same_Some, none-some, slice_get-get_or}
 use Rattle.grind_term_graph.specs.declared.node.Node.{Node}
 use Rattle.grind_term_graph.specs.Terms.{prop, sort_at}
-use Rattle.grind_term_graph.proofs.Placing.{slice_get-append}
-use Rattle.grind_schemes.specs.Goals.{GoalData, IsGoal}
+use Rattle.grind_schemes.specs.Goals.{GoalData}
 use Rattle.grind_schemes.specs.declared.lemmas.Lemmas.{Lemmas}
 use Rattle.grind_proof_kernel.specs.declared.claim.Claim.{Claim}
 use Rattle.grind_proof_kernel.specs.declared.claim.Claim.TheVariants.{Holds, Fails, Same, Differ, Absurd}
@@ -17,8 +16,8 @@ use Rattle.grind_proof_kernel.specs.declared.proof.Branch.{Branch}
 use Rattle.grind_proof_kernel.specs.declared.proof.Line.{Line}
 use Rattle.grind_proof_kernel.specs.declared.proof.Proof.{Proof}
 use Rattle.grind_proof_kernel.specs.Claims.{IsFormed}
-use Rattle.grind_proof_kernel.specs.Typing.{IsLiteral, AreOpposite, IsPairOf, IsParent, IsClosed, IsFirst, IsSecond, IsInPair, IsListed, IsGoodBranch, Typed, branch_at, parent_of, literal_of}
-use Rattle.grind_value_tables.specs.Respects.{one, zero_value, IsTruthValue, Respects}
+use Rattle.grind_proof_kernel.specs.Typing.{IsLiteral, AreOpposite, IsParent, IsClosed, IsFirst, IsSecond, IsInPair, IsListed, IsGoodBranch, Typed, branch_at, parent_of}
+use Rattle.grind_value_tables.specs.Respects.{zero_value, Respects}
 use Rattle.grind_value_tables.specs.Truths.{ClaimTrue, AreTrue}
 use Rattle.grind_value_tables.specs.Laws.{AssumesTruth, IsTableFor, TypedIsTrue}
 use Rattle.grind_value_tables.proofs.Fronts.{IsSomeAnd-at}

@@ -1,12 +1,12 @@
 -- Each rule but `cong` and `table` lets a line claim what is true, where its premises are.
-use Rattle.std.specs.Prelude.{◌≡◌, ℕ, List, [], ◌∷◌, Option, Some, IfSome, slice_get, ℤ, refl}
+use Rattle.std.specs.Prelude.{◌≡◌, ℕ, List, [], ◌∷◌, Option, Some, IfSome, ℤ, refl}
 use Rattle.std.proofs.Common.{sym, ap, ◌∙◌, subst, inl, inr}
 use Rattle.std.proofs.lemmas.Option.{slice_get_within, get_or_from_slice_get}
 use Rattle.grind_term_graph.specs.declared.node.Node.{Node}
 use Rattle.grind_term_graph.specs.Shape.{IsBegun}
 use Rattle.grind_schemes.specs.Goals.{GoalData}
 use Rattle.grind_proof_kernel.specs.declared.claim.Claim.{Claim}
-use Rattle.grind_proof_kernel.specs.declared.claim.Claim.TheVariants.{Holds, Fails, Same, Differ, Absurd}
+use Rattle.grind_proof_kernel.specs.declared.claim.Claim.TheVariants.{Holds, Fails, Same, Differ}
 use Rattle.grind_proof_kernel.specs.Claims.{IsFormed}
 use Rattle.grind_proof_kernel.specs.Rules.{true_node, false_node, IsHyp, IsNegated, IsAssumed, IsRefl, IsSym, IsTrans, IsEq, IsBack, IsTruth, IsUntruth, IsApart, IsClash, IsImpossible, AreOpposed, AreSplit}
 use Rattle.grind_value_tables.specs.Respects.{one, zero_value, Respects}

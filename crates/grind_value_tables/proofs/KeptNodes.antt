@@ -1,9 +1,7 @@
 -- A table of values respects the first nodes exactly where each of them keeps what it has to.
 use Rattle.std.specs.Prelude.{◌≡◌, ℕ, zero, suc, ◌+◌, ◌<◌, ◌⊎◌, ◌↔◌, Bool, false, IsTrue, List, Some, length, map, take, slice_get, ℤ, refl}
-use Rattle.std.specs.Option.{IsSomeAnd}
 use Rattle.std.proofs.Common.{arith, sym, ap, ◌∙◌, subst, inl, inr}
 use Rattle.std.proofs.lemmas.Bool.{true≢false}
-use Rattle.std.proofs.lemmas.Option.{slice_get_within}
 use Rattle.grind_term_graph.specs.declared.node.Node.{Node}
 use Rattle.grind_term_graph.specs.Terms.{prop}
 use Rattle.grind_value_tables.specs.Respects.{Means, IsTruthValue, AreOneApplication, Respects}

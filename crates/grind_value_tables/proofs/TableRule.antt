@@ -1,6 +1,6 @@
 -- What the truth tables of the connectives give is true: each truth that an assignment gives a node is its value, for the
 -- assignment that reads the values of the free nodes.
-use Rattle.std.specs.Prelude.{◌≡◌, ◌↔◌, ℕ, zero, suc, ◌+◌, ◌⊎◌, Bool, true, false, not, ◌&&◌, ◌||◌, List, [], ◌∷◌, ◌++◌, Option, Some, None, IfSome, IsSome, All, if◌then◌else◌, nat_eq, option_and_then, slice_index_or, length, map, take, slice_get, ℤ, refl}
+use Rattle.std.specs.Prelude.{◌≡◌, ◌↔◌, ℕ, zero, suc, ◌+◌, ◌⊎◌, Bool, true, false, not, ◌&&◌, ◌||◌, List, [], ◌∷◌, ◌++◌, Option, Some, None, IfSome, IsSome, All, if◌then◌else◌, nat_eq, slice_index_or, length, map, take, slice_get, ℤ, refl}
 use Rattle.std.specs.Bool.{Decides}
 use Rattle.std.specs.Option.{option_map, option_or}
 use Rattle.std.specs.Ordering.{int_eq}

@@ -1,5 +1,5 @@
 -- A table of values as a list of numbers of 128 bits, and where a value that is asked for does not fit.
-use Rattle.std.specs.Prelude.{◌≡◌, ℕ, List, map, take, slice_get, slice_index_or, ℤ, pos, ◌+ℤ◌, ◌*ℤ◌, neg_ℤ, FitsSigned}
+use Rattle.std.specs.Prelude.{ℕ, List, map, take, slice_get, slice_index_or, ℤ, pos, ◌+ℤ◌, ◌*ℤ◌, neg_ℤ, FitsSigned}
 use Rattle.std.specs.Option.{IsSomeAnd}
 use Rattle.std.specs.Int.{w128}
 use Rattle.grind_term_graph.specs.declared.head.Head.{Head}

@@ -6,7 +6,7 @@ use Rattle.grind_term_graph.specs.declared.head.Head.{Head}
 use Rattle.grind_term_graph.specs.declared.head.Head.TheVariants as head
 use Rattle.grind_term_graph.specs.declared.node.Node.{Node}
 use Rattle.grind_term_graph.specs.Terms.{prop}
-use Rattle.grind_value_tables.specs.Respects.{Means, IsTruthValue, AreOneApplication, Respects}
+use Rattle.grind_value_tables.specs.Respects.{Means, IsTruthValue, Respects}
 use Rattle.grind_value_tables.specs.Overflows.{value_of}
 
 -- a term of that head, sort and arguments

@@ -1,4 +1,4 @@
-use Rattle.std.specs.Prelude.{◌≡◌, ◌∷◌, length, map}
+use Rattle.std.specs.Prelude.{◌≡◌, length, map}
 use Rattle.grind_value_tables.specs.Overflows.{value_of}
 use Rattle.grind_value_tables.proofs.Fronts.{same_behind}
 use Rattle.grind_value_tables.proofs.functions.have_equal_values.Goals as goal
