@@ -1,4 +1,5 @@
 pub mod Grammar
+pub mod GrammarCases
 pub mod Kept
 pub mod Names
 pub mod Reading

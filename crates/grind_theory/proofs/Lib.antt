@@ -10,6 +10,7 @@ pub mod Givens
 pub mod GoalLaws
 pub mod Keeping
 pub mod Labelled
+pub mod OneTheory
 pub mod Shapes
 pub mod SortLists
 pub mod Taking

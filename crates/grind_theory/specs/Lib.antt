@@ -4,4 +4,5 @@ pub mod Evaluated
 pub mod Formulas
 pub mod GoalReading
 pub mod Theories
+pub mod TheoryCases
 pub mod TheoryOf

@@ -14,6 +14,10 @@ pub record IsTheoryOf (ds : List Declaration) (theory : Theory) : Type 0 where
   pub theorems : theory.lemmas.theorems ≡ []
   pub limits : IsStandard theory.lemmas.limits
 
+-- at most one theory stands for declarations
+abbrev pub OneTheory : Type 0
+OneTheory = (ds : List Declaration) (a b : Theory) → IsTheoryOf ds a → IsTheoryOf ds b → a ≡ b
+
 -- the theory is that of the declarations which the code keeps
 abbrev pub IsTheoryRead : List ℕ → List Decl → Theory → Type 0
 IsTheoryRead text kept theory = (ds : List Declaration) → KeepsAll text kept ds → IsTheoryOf ds theory

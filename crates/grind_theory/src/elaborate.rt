@@ -4,7 +4,7 @@ ghost use Rattle.std.specs.Str.{bytes_eq};
 ghost use Rattle.grind_syntax.specs.Kept.{IsPlaced, name_of};
 ghost use Rattle.grind_theory.specs.Theories.{AreSorts};
 ghost use Rattle.grind_theory.specs.Declaring.{state_of, AreDeclared, IsKept, AreKept, IsTaken, IsAdded, IsRefused, AreNoSorts};
-ghost use Rattle.grind_theory.specs.TheoryOf.{IsTheoryRead, IsNoTheory};
+ghost use Rattle.grind_theory.specs.TheoryOf.{IsTheoryRead, IsNoTheory, OneTheory};
 
 use crate::goal_reader::read_goal;
 use crate::term_reader::TheoryRefusal;
@@ -199,3 +199,8 @@ pub fn elaborate(alloc: Global, text: &[u8], decls: &List<Decl>) -> Result<Theor
         goals,
     })
 }
+
+/// At most one theory stands for declarations.
+pub fn one_theory()
+    ensures { OneTheory }
+{}

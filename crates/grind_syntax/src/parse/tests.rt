@@ -9,9 +9,11 @@ fn kind_of(piece: &[u8]) -> TokenKind {
         (b'.', Sym::Dot),
         (b',', Sym::Comma),
         (b':', Sym::Colon),
+        (b';', Sym::Semicolon),
         (b'(', Sym::LeftParen),
         (b')', Sym::RightParen),
         (b'=', Sym::Eq),
+        (b'!', Sym::Ne),
         (b'|', Sym::Turnstile),
     ] {
         if piece.first() == Some(&spelling) {
@@ -77,6 +79,8 @@ fn reads_what_the_grammar_has(rt: HostRuntime) {
         ("fun a : S . fun f ( S , S ) : S . ", true),
         ("goal t ( a b : S , c : T ) : |- f ( a , b ) = c . ", true),
         ("goal t : |- a = a . ", true),
+        ("goal t : |- a != f ( a ) . ", true),
+        ("goal t : a = b ; f ( a ) != b |- a = b . ", true),
         ("sort S ", false),
         ("sort S . sort T ", false),
         ("sort S . T . ", false),
@@ -91,6 +95,11 @@ fn reads_what_the_grammar_has(rt: HostRuntime) {
         ("goal t : |- f ( ) = a . ", false),
         ("goal t : |- f ( a = a . ", false),
         ("goal t : |- true = a . ", false),
+        ("goal t : |- a != a = a . ", false),
+        ("goal t : a = b ; |- a = b . ", false),
+        ("goal t : a = b c = d |- a = b . ", false),
+        ("goal t : a = b ; a = b . ", false),
+        ("goal t : a |- a = b . ", false),
     ] {
         assert_eq!(rt; is_read(rt.alloc(), text.as_bytes()), Ok(want), "at {text}");
     }
@@ -165,5 +174,36 @@ fn keeps_names_and_terms(rt: HostRuntime) -> Result<(), Fail> {
         ]
         .as_slice()
     );
+    Ok(())
+}
+
+#[test]
+fn keeps_hypotheses(rt: HostRuntime) -> Result<(), Fail> {
+    let alloc = rt.alloc();
+    let text = b"goal t : a != b ; b = a |- a = b . ".as_slice();
+    let tokens = spaced(alloc, text)?;
+    let decls = parse(alloc, text, &tokens).ok().ok_or("refused")?;
+    let [Decl::Goal { hyps, .. }] = decls.as_slice() else {
+        return Err("another declaration".into());
+    };
+    let [first, second] = hyps.as_slice() else {
+        return Err("another number of hypotheses".into());
+    };
+    assert_eq!(rt;
+        first.as_slice(),
+        [
+            Item::Apply {
+                name: Name { start: 9, end: 10 },
+                parts: 0
+            },
+            Item::Apply {
+                name: Name { start: 14, end: 15 },
+                parts: 0
+            },
+            Item::Two(Binary::Ne),
+        ]
+        .as_slice()
+    );
+    assert_eq!(rt; second.as_slice().last(), Some(&Item::Two(Binary::Eq)));
     Ok(())
 }
