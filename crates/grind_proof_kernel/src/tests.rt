@@ -1,0 +1,118 @@
+//! The rule `table` over a formula and its negation, and the ancestors of branches.
+ghost use Rattle.std.specs.Prelude.{◌≡◌, IfOk, Some};
+ghost use Rattle.grind_term_graph.specs.Terms.{sort_at};
+
+use crate::branches::reaches;
+use crate::claim::is_formed;
+use crate::table::is_table;
+use crate::{Branch, Claim, Line, Rule};
+use grind_outside::{List, Memory};
+use grind_term_graph::{Args, Head, Node, NodeId, SortId, TermRefusal, TermTable};
+use std::alloc::Global;
+use std::test::Fail;
+
+// Puts the constant of number 0, a formula, into the table.
+fn put_formula(alloc: Global, terms: &mut TermTable) -> Result<NodeId, TermRefusal>
+    ensures { IfOk result (λ id. sort_at terms.new.nodes id ≡ Some 0) }
+{
+    let args = Args::from_slice(alloc, &[])?;
+    let node = Node {
+        head: Head::Const(0),
+        sort: SortId::PROP,
+        args,
+    };
+    let id = terms.intern(alloc, node)?;
+    Ok(id)
+}
+
+// Puts the negation of a formula into the table.
+fn put_negation(
+    alloc: Global,
+    terms: &mut TermTable,
+    formula: NodeId,
+) -> Result<NodeId, TermRefusal>
+    requires { sort_at terms.old.nodes formula ≡ Some 0 }
+    ensures { IfOk result (λ id. sort_at terms.new.nodes id ≡ Some 0) }
+{
+    let args = Args::from_slice(alloc, &[formula])?;
+    let node = Node {
+        head: Head::Not,
+        sort: SortId::PROP,
+        args,
+    };
+    let id = terms.intern(alloc, node)?;
+    Ok(id)
+}
+
+// One line of the root that claims this.
+fn line_of(alloc: Global, claim: Claim) -> Result<List<Line>, Memory> {
+    let mut lines = List::new(alloc);
+    lines.push(Line {
+        branch: 0,
+        rule: Rule::Negated,
+        premises: List::new(alloc),
+        claim,
+    })?;
+    Ok(lines)
+}
+
+// Whether the table of these free nodes gives the formula from the first line.
+fn gives(
+    alloc: Global,
+    terms: &TermTable,
+    free: &[NodeId],
+    lines: &[Line],
+    formula: NodeId,
+) -> Result<bool, Memory> {
+    let claim = Claim::Holds(formula);
+    if lines.is_empty() || !is_formed(terms, &claim) {
+        return Ok(false);
+    }
+    let given = is_table(alloc, terms, free, lines, &[0], &claim)?;
+    Ok(given)
+}
+
+#[test]
+fn a_formula_follows_from_the_failing_negation(rt: HostRuntime) -> Result<(), Fail> {
+    let alloc = rt.alloc();
+    let mut terms = TermTable::new(alloc, 4)?;
+    let formula = put_formula(alloc, &mut terms)?;
+    let negation = put_negation(alloc, &mut terms, formula)?;
+    let failing = line_of(alloc, Claim::Fails(negation))?;
+    let holding = line_of(alloc, Claim::Holds(negation))?;
+    for (lines, free, want) in [
+        (failing.as_slice(), [formula].as_slice(), true),
+        (holding.as_slice(), [formula].as_slice(), false),
+        (failing.as_slice(), [formula, formula].as_slice(), false),
+    ] {
+        assert_eq!(rt; gives(alloc, &terms, free, lines, formula)?, want);
+    }
+    Ok(())
+}
+
+#[test]
+fn an_ancestor_is_reached(rt: HostRuntime) -> Result<(), Fail> {
+    let alloc = rt.alloc();
+    let mut branches = List::new(alloc);
+    for parent in [0, 0, 1, 1] {
+        branches.push(Branch {
+            parent,
+            after: 0,
+            literal: Claim::Holds(NodeId::TRUE),
+        })?;
+    }
+    for (above, branch, want) in [
+        (0, 3, true),
+        (1, 4, true),
+        (2, 3, false),
+        (3, 3, true),
+        (3, 1, false),
+    ] {
+        assert_eq!(rt;
+            reaches(branches.as_slice(), above, branch),
+            want,
+            "{above} above {branch}"
+        );
+    }
+    Ok(())
+}
