@@ -34,7 +34,6 @@ fn main(rt: HostRuntime) -> ExitCode {
 
 /// The size that the words name, where they are `chain SIZE 1`.
 fn size_of(rt: &(impl Env + AllocGlobal)) -> std::io::Result<Option<u32>>
-    ensures { IfOk result (λ size. Unit {0}) }
 {
     let mut words = Vec::new(rt.alloc());
     for word in env::args(rt)?.skip(1) {
@@ -89,10 +88,28 @@ fn lines_of(alloc: Global, show: NodeId, side: NodeId, size: u32) -> Result<List
     push(alloc, &mut lines, Rule::Negated, &[], Claim::Fails(show))?;
     push(alloc, &mut lines, Rule::Refl, &[], Claim::Same(side, side))?;
     for last in 1..size + 1 {
-        push(alloc, &mut lines, Rule::Trans, &[last, 1], Claim::Same(side, side))?;
+        push(
+            alloc,
+            &mut lines,
+            Rule::Trans,
+            &[last, 1],
+            Claim::Same(side, side),
+        )?;
     }
-    push(alloc, &mut lines, Rule::Back, &[size + 1], Claim::Holds(show))?;
-    push(alloc, &mut lines, Rule::Clash, &[size + 2, 0], Claim::Absurd)?;
+    push(
+        alloc,
+        &mut lines,
+        Rule::Back,
+        &[size + 1],
+        Claim::Holds(show),
+    )?;
+    push(
+        alloc,
+        &mut lines,
+        Rule::Clash,
+        &[size + 2, 0],
+        Claim::Absurd,
+    )?;
     Ok(lines)
 }
 
