@@ -1,5 +1,5 @@
 -- Worked cases, for any names: a goal with a hypothesis is a declaration, and two equations in a row are no relation.
-use Rattle.std.specs.Prelude.{◌≡◌, ℕ, List, [], ◌∷◌, codes, refl}
+use Rattle.std.specs.Prelude.{ℕ, List, [], ◌∷◌, codes, refl}
 use Rattle.std.proofs.Common.{lit≤}
 use Rattle.grind_syntax.specs.declared.syntax.Binary.TheVariants as binaries
 use Rattle.grind_tokens.specs.declared.tokens.Sym.TheVariants as symbols

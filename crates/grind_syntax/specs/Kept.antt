@@ -1,5 +1,5 @@
 -- Which declaration the code keeps: names as places in the file, terms as their items.
-use Rattle.std.specs.Prelude.{◌≡◌, ℕ, ◌≤◌, List, [], ◌∷◌, ◌++◌, length, All, map, slice_range}
+use Rattle.std.specs.Prelude.{◌≡◌, ℕ, ◌≤◌, List, [], ◌∷◌, ◌++◌, length, slice_range}
 use Rattle.grind_syntax.specs.declared.syntax.Name.{Name}
 use Rattle.grind_syntax.specs.declared.syntax.Binder.{Binder}
 use Rattle.grind_syntax.specs.declared.syntax.Binary.{Binary}

@@ -1,5 +1,5 @@
 -- Declarations and terms, apart from where they stand in a file.
-use Rattle.std.specs.Prelude.{◌≡◌, ℕ, ◌+◌, ◌≤◌, max, List, [], ◌∷◌, ◌++◌, length}
+use Rattle.std.specs.Prelude.{ℕ, ◌+◌, max, List}
 use Rattle.grind_syntax.specs.declared.syntax.Binary.{Binary}
 
 mutual

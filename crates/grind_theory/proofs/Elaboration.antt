@@ -1,21 +1,13 @@
 -- What a term makes is what its sorts and the order of interning say.
-use Rattle.std.specs.Prelude.{◌≡◌, ℕ, zero, suc, ◌<◌, ◌≤◌, Bool, true, false, not, ◌&&◌, List, [], ◌∷◌, ◌++◌, length, map, Contains, All, Option, Some, None, nat_le, nat_eq, refl, option_and_then, if◌then◌else◌, Result, Err}
+use Rattle.std.specs.Prelude.{◌≡◌, ℕ, ◌≤◌, List, [], ◌∷◌, ◌++◌, length, map, Option, Some, refl, option_and_then}
 use Rattle.std.specs.Option.{option_map}
-use Rattle.std.proofs.Common.{rules, arith, sym, ap, subst, ◌∙◌, append_assoc, get_or, true≢false}
-use Rattle.std.proofs.lemmas.List.{length-append, append-nil}
-use Rattle.std.proofs.lemmas.Bool.{and_parts, false_from_ne_true}
-use Rattle.std.proofs.lemmas.Bool.Decides.{nat_tests}
+use Rattle.std.proofs.Common.{arith, sym, ap, subst, ◌∙◌}
+use Rattle.std.proofs.lemmas.List.{append-nil}
 use Rattle.grind_term_graph.specs.declared.node.Node.{Node}
-use Rattle.grind_term_graph.specs.declared.head.Head.{Head}
-use Rattle.grind_term_graph.specs.declared.head.Head.TheVariants as heads
 use Rattle.grind_term_graph.specs.Terms.{prop, sort_at}
-use Rattle.grind_term_graph.specs.Placed.{placed}
-use Rattle.grind_term_graph.proofs.Placing.{slice_get-placed, placed-grows, placed-absent}
-use Rattle.grind_syntax.specs.declared.syntax.Binary.{Binary}
-use Rattle.grind_syntax.specs.declared.syntax.Binary.TheVariants as binaries
 use Rattle.grind_syntax.specs.Syntax.{Term, Row, none, more, Apply, Two}
-use Rattle.grind_theory.specs.Theories.{Given, Relates, HasSort, HaveSorts, Interns, InternsRow}
-use Rattle.grind_theory.specs.Evaluated.{Made, Stack, is_sort, have_sorts, is_same_sort, fitted, applied, equated, negated, compared, made, made_row}
+use Rattle.grind_theory.specs.Theories.{Given, HasSort, HaveSorts, Interns, InternsRow}
+use Rattle.grind_theory.specs.Evaluated.{Made, Stack, applied, compared, made, made_row}
 use Rattle.grind_theory.proofs.Evaluation.{on, and_then-some, map-some}
 use Rattle.grind_theory.proofs.Fitting.{the_node, put, some_same, map-Some_same, fitted-some, applied-some, applied-from, grows_twice, fitted-placed, compared-some, sort_grows, placed-length, put-sort, put-grows, relates-length, compared-from}
 

@@ -2,7 +2,7 @@
 use Rattle.std.specs.Prelude.{◌≡◌, ℕ, zero, suc, ◌<◌, ◌≤◌, Bool, true, false, not, ◌&&◌, List, [], ◌∷◌, ◌++◌, length, map, Contains, All, Option, Some, None, nat_le, nat_eq, refl, option_and_then, if◌then◌else◌, Result, Err}
 use Rattle.std.specs.Option.{option_map}
 use Rattle.std.proofs.Common.{rules, arith, sym, ap, subst, ◌∙◌, append_assoc, get_or, true≢false}
-use Rattle.std.proofs.lemmas.List.{length-append, append-nil}
+use Rattle.std.proofs.lemmas.List.{length-append}
 use Rattle.std.proofs.lemmas.Bool.{and_parts, false_from_ne_true}
 use Rattle.std.proofs.lemmas.Bool.Decides.{nat_tests}
 use Rattle.grind_term_graph.specs.declared.node.Node.{Node}
@@ -13,10 +13,9 @@ use Rattle.grind_term_graph.specs.Placed.{placed}
 use Rattle.grind_term_graph.proofs.Placing.{slice_get-placed, placed-grows, placed-absent}
 use Rattle.grind_syntax.specs.declared.syntax.Binary.{Binary}
 use Rattle.grind_syntax.specs.declared.syntax.Binary.TheVariants as binaries
-use Rattle.grind_syntax.specs.Syntax.{Term, Row, none, more, Apply, Two}
-use Rattle.grind_theory.specs.Theories.{Given, Relates, HasSort, HaveSorts, Interns, InternsRow}
-use Rattle.grind_theory.specs.Evaluated.{Made, Stack, is_sort, have_sorts, is_same_sort, fitted, applied, equated, negated, compared, made, made_row}
-use Rattle.grind_theory.proofs.Evaluation.{on, and_then-some, map-some}
+use Rattle.grind_theory.specs.Theories.{Given, Relates}
+use Rattle.grind_theory.specs.Evaluated.{Made, is_sort, have_sorts, is_same_sort, fitted, applied, equated, negated, compared}
+use Rattle.grind_theory.proofs.Evaluation.{and_then-some}
 
 -- a node of these parts, and one that was put among nodes
 abbrev pub the_node : Head → ℕ → List ℕ → Node

@@ -1,5 +1,5 @@
 -- Declarations make at most one theory.
-use Rattle.std.specs.Prelude.{◌≡◌, ◌≢◌, ℕ, zero, suc, ◌<◌, ◌≤◌, List, [], ◌∷◌, ◌++◌, length, codes, Contains, Some, slice_get, refl}
+use Rattle.std.specs.Prelude.{◌≡◌, ◌≢◌, ℕ, zero, suc, ◌≤◌, List, [], ◌∷◌, ◌++◌, length, codes, Contains, Some, slice_get, refl}
 use Rattle.std.specs.List.{AllPairs}
 use mathlib.Core.HLevel.{is_prop→PathP}
 use Rattle.std.proofs.Math.Path.{PathP}
@@ -19,11 +19,11 @@ use Rattle.grind_schemes.specs.Goals.{GoalData}
 use Rattle.grind_syntax.specs.declared.syntax.Binary.{Binary}
 use Rattle.grind_syntax.specs.declared.syntax.Binary.TheVariants as binaries
 use Rattle.grind_syntax.specs.Syntax.{Term, Row, none, more, Apply, Two, Bound, Declaration, Sort, Fun, Goal}
-use Rattle.grind_signature.specs.Signatures.{Function, SignatureData, opening, function_names, IsHeld, with_function, with_label}
-use Rattle.grind_theory.specs.Theories.{Given, Gives, Relates, Interns, InternsRow, InternsAll, BindsAll, IsGoalOf, AreSorts, State, Takes, TakesAll, opening_state}
-use Rattle.grind_theory.specs.Evaluated.{constant_names, given_of}
+use Rattle.grind_signature.specs.Signatures.{Function, SignatureData, opening, function_names, with_function, with_label}
+use Rattle.grind_theory.specs.Theories.{Given, Gives, Relates, Interns, InternsRow, InternsAll, IsGoalOf, AreSorts, State, Takes, TakesAll, opening_state}
+use Rattle.grind_theory.specs.Evaluated.{constant_names}
 use Rattle.grind_theory.specs.Declaring.{state_of}
-use Rattle.grind_theory.specs.TheoryOf.{IsTheoryOf, OneTheory}
+use Rattle.grind_theory.specs.TheoryOf.{OneTheory}
 use Rattle.grind_theory.proofs.Fitting.{the_node, equation, negation}
 use Rattle.grind_theory.proofs.Givens.{place_unique, given_of-complete}
 use Rattle.grind_theory.proofs.SortLists.{sorts-same}

@@ -1,14 +1,12 @@
 -- The nodes that are put into a table are well shaped.
-use Rattle.std.specs.Prelude.{◌≡◌, ℕ, zero, suc, ◌<◌, ◌≤◌, true, List, [], ◌∷◌, length, map, All, Some, slice_get, refl}
-use Rattle.std.proofs.Common.{arith, ap, get_or}
+use Rattle.std.specs.Prelude.{◌≡◌, ℕ, zero, suc, ◌<◌, ◌≤◌, true, List, [], ◌∷◌, length, map, All, Some, refl}
+use Rattle.std.proofs.Common.{arith, ap}
 use Rattle.std.proofs.lemmas.List.{length-map}
 use Rattle.std.proofs.lemmas.Bool.{and_parts}
-use Rattle.std.proofs.lemmas.Option.{slice_get-get_or}
 use Rattle.grind_term_graph.specs.declared.node.Node.{Node}
 use Rattle.grind_term_graph.specs.declared.head.Head.TheVariants as heads
 use Rattle.grind_term_graph.specs.Terms.{prop, sort_at}
 use Rattle.grind_term_graph.specs.Shape.{WellShaped}
-use Rattle.grind_signature.specs.Signatures.{Function, SignatureData, IsSignature}
 use Rattle.grind_theory.specs.Evaluated.{is_sort, have_sorts}
 use Rattle.grind_theory.proofs.Keeping.{All-cons}
 use Rattle.grind_theory.proofs.Fitting.{the_node}

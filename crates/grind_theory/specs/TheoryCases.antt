@@ -1,5 +1,5 @@
 -- Worked cases: what declarations lead to, and one that leads nowhere.
-use Rattle.std.specs.Prelude.{◌≡◌, ℕ, List, [], ◌∷◌, ◌++◌, codes, refl}
+use Rattle.std.specs.Prelude.{ℕ, List, [], ◌∷◌, ◌++◌, codes, refl}
 use Rattle.std.proofs.Common.{lit<, lit≤, inl}
 use Rattle.grind_term_graph.specs.declared.node.Node.{Node}
 use Rattle.grind_term_graph.specs.declared.head.Head.TheVariants as heads
@@ -7,7 +7,7 @@ use Rattle.grind_term_graph.specs.Terms.{prop, opening as opening_nodes}
 use Rattle.grind_syntax.specs.declared.syntax.Binary.TheVariants as binaries
 use Rattle.grind_syntax.specs.Syntax.{none, Apply, Two, Sort, Fun}
 use Rattle.grind_signature.specs.Signatures.{opening, IsHeld, with_sort, with_function}
-use Rattle.grind_theory.specs.Theories.{Given, Interns, State, Takes, opening_state}
+use Rattle.grind_theory.specs.Theories.{Given, Interns, State, Takes}
 
 -- nothing is declared but the sort S
 abbrev with_S : State

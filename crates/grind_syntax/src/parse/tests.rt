@@ -1,3 +1,5 @@
+ghost use Rattle.std.specs.Prelude.{◌≤◌, length, All, IfOk};
+
 use super::*;
 use crate::syntax::{Binary, Binder, Item, Name};
 use grind_tokens::tokens::{Sym, TokenKind};

@@ -1,7 +1,7 @@
 use Rattle.std.proofs.Common.{sym, subst}
 use Rattle.grind_syntax.specs.Grammar.{lexemes}
 use Rattle.grind_syntax.specs.Reading.{HypothesesAt}
-use Rattle.grind_syntax.proofs.RelationSteps.{hypotheses_none, hypotheses_listed, no_hypotheses_here}
+use Rattle.grind_syntax.proofs.RelationSteps.{hypotheses_none, hypotheses_listed}
 use Rattle.grind_syntax.proofs.terms.hypotheses.Goals as goal
 
 pub returns-in-Some-clause-ok : goal.returns-in-Some-clause-ok
