@@ -33,8 +33,7 @@ fn main(rt: HostRuntime) -> ExitCode {
 }
 
 /// The size that the words name, where they are `chain SIZE 1`.
-fn size_of(rt: &(impl Env + AllocGlobal)) -> std::io::Result<Option<u32>>
-{
+fn size_of(rt: &(impl Env + AllocGlobal)) -> std::io::Result<Option<u32>> {
     let mut words = Vec::new(rt.alloc());
     for word in env::args(rt)?.skip(1) {
         words.push(word)?;

@@ -1,15 +1,14 @@
 -- From the outcome of a goal to its block.
-use Rattle.std.proofs.Common.{◌≡◌, ◌↔◌, ℕ, Bool, IsTrue, List, [], ◌++◌, All, refl, ap, sym, subst, ◌∙◌, append-nil}
+use Rattle.std.proofs.Common.{◌≡◌, ◌↔◌, ℕ, Bool, IsTrue, List, [], All, refl, sym, subst, ◌∙◌, append-nil}
 use Rattle.std.specs.List.{AllByRecursion}
 use Rattle.std.proofs.lemmas.List.Elements.{All-from_recursion}
 use Rattle.grind_term_graph.specs.declared.node.Node.{Node}
 use Rattle.grind_schemes.specs.Goals.{GoalData}
 use Rattle.grind_schemes.specs.declared.lemmas.Lemmas.{Lemmas}
-use Rattle.grind_proof_kernel.specs.declared.proof.Proof.{Proof}
 use Rattle.grind_report.specs.declared.report.Outcome.{Outcome}
 use Rattle.grind_report.specs.declared.report.Outcome.TheVariants as outcomes
 use Rattle.grind_signature.specs.Signatures.{SignatureData, IsDeclared}
-use Rattle.grind_report.specs.Report.{Block, Closed, Unexplored, BlockFits, block_bytes}
+use Rattle.grind_report.specs.Report.{Block, BlockFits, block_bytes}
 use Rattle.grind_report.specs.Blocks.{IsBlockOf, OutcomePrintable}
 use Rattle.grind_cli.specs.Outcomes.{IsOutcomeOf}
 use Rattle.grind_cli.specs.Written.{SpellsBlock, IsClosedOutcome}

@@ -7,7 +7,7 @@ use Rattle.grind_cli.specs.declared.status.Status.{Status}
 use Rattle.grind_cli.specs.declared.status.Status.TheVariants.{AllClosed, SomeOpen, TheoryRefused, WordsRefused, ReadFault, WriteFault, Memory, ReportMalformed, TooLong}
 use Rattle.grind_theory.specs.declared.theory.Theory.{Theory}
 use Rattle.grind_cli.specs.TheoryFiles.{TheoryOf}
-use Rattle.grind_cli.specs.Endings.{Ends, EndsOn, EndsOnTheory, EndsOnFile, IsAnswer, Stands, max_theory_bytes}
+use Rattle.grind_cli.specs.Endings.{Ends, EndsOn, EndsOnTheory, IsAnswer, Stands, max_theory_bytes}
 
 -- the second items of equal lists are equal
 second_is : {X : Type 0} (x y a b : X) (xs ys : List X) → x ∷ a ∷ xs ≡ y ∷ b ∷ ys → a ≡ b

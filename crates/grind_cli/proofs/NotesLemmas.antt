@@ -1,5 +1,5 @@
 -- Bytes behind bytes, on a sink.
-use Rattle.std.proofs.Common.{◌≡◌, ℕ, List, [], ◌++◌, Option, Some, None, refl, ap, sym, ◌∙◌, append_assoc, append-nil, ◌⊎◌, inl, inr}
+use Rattle.std.proofs.Common.{◌≡◌, ℕ, List, [], ◌++◌, Option, Some, None, refl, ap, sym, ◌∙◌, append_assoc, append-nil, inl, inr}
 use Rattle.grind_outside.specs.declared.refusal.SinkRefusal.{SinkRefusal}
 use Rattle.grind_outside.specs.Outside.{appended, IsFront}
 use Rattle.grind_cli.specs.Notes.{Notes, WasRefused}

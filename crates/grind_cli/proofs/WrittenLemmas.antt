@@ -1,14 +1,13 @@
 -- Reports that are written block by block.
-use Rattle.std.proofs.Common.{◌≡◌, ◌↔◌, ◌<◌, ◌^◌, ◌&&◌, ◌⊎◌, ℕ, Bool, true, IsTrue, List, [], ◌∷◌, ◌++◌, length, flat_map, Option, refl, ap, sym, subst, ◌∙◌, append_assoc, inl, inr, arith}
+use Rattle.std.proofs.Common.{◌≡◌, ◌↔◌, ◌<◌, ◌^◌, ◌&&◌, ℕ, Bool, true, IsTrue, List, [], ◌∷◌, ◌++◌, length, flat_map, Option, refl, ap, sym, subst, ◌∙◌, append_assoc, inl, inr, arith}
 use Rattle.std.proofs.lemmas.Bool.{and_parts}
-use Rattle.std.specs.List.{AllByRecursion}
 use Rattle.grind_outside.specs.Outside.{appended, IsFront}
 use Rattle.grind_schemes.specs.Goals.{GoalData}
 use Rattle.grind_schemes.specs.declared.lemmas.Lemmas.{Lemmas}
 use Rattle.grind_signature.specs.Signatures.{SignatureData}
 use Rattle.std.proofs.lemmas.List.Elements.{All-from_recursion}
-use Rattle.grind_report.specs.Report.{Block, BlockFits, block_bytes, header_bytes, end_bytes, Report, ReportFits, ReportOf}
-use Rattle.grind_cli.specs.Answers.{IsClosed, AreClosed, AnswersAll, BeginsGoal, IsBegun, IsPartOfBlocks, IsEnding, WritesReport, WritesPart}
+use Rattle.grind_report.specs.Report.{Block, BlockFits, block_bytes, header_bytes, end_bytes}
+use Rattle.grind_cli.specs.Answers.{AreClosed, AnswersAll, WritesReport, WritesPart}
 use Rattle.grind_cli.specs.Written.{WritesBlock, WritesBlocks, WritesSomeBlocks, WritesFront, BeginsBlock}
 use Rattle.grind_report.proofs.ReportParts.{report_of_parts}
 use Rattle.grind_cli.proofs.NotesLemmas.{appended-append, appended-nil}

@@ -82,12 +82,7 @@ fn same_of(nodes: &[NodeId]) -> Option<NodeId>
 }
 
 /// The proof of a conclusion that is the hypothesis of this number.
-fn prove_assumed(
-    alloc: Global,
-    lemmas: &Lemmas,
-    goal: &Goal,
-    number: u32,
-) -> Result<Proof, Memory>
+fn prove_assumed(alloc: Global, lemmas: &Lemmas, goal: &Goal, number: u32) -> Result<Proof, Memory>
     requires { IsAssumedAs goal.now number }
     ensures { IfOk result (ProvesGoal lemmas.now goal.now) }
 {
@@ -135,7 +130,13 @@ fn assumed_lines_of(alloc: Global, number: u32, show: NodeId) -> Result<List<Lin
     ensures { IfOk result (λ lines. lines ≡ assumed_lines number show) }
 {
     let mut lines = List::new(alloc);
-    push(alloc, &mut lines, Rule::Hyp(number), &[], Claim::Holds(show))?;
+    push(
+        alloc,
+        &mut lines,
+        Rule::Hyp(number),
+        &[],
+        Claim::Holds(show),
+    )?;
     push(alloc, &mut lines, Rule::Negated, &[], Claim::Fails(show))?;
     push(alloc, &mut lines, Rule::Clash, &[0, 1], Claim::Absurd)?;
     Ok(lines)

@@ -1,4 +1,4 @@
-use Rattle.std.proofs.Common.{◌≡◌, ap, ◌∙◌}
+use Rattle.std.proofs.Common.{ap, ◌∙◌}
 use Rattle.grind_cli.proofs.EndingLemmas.{one_name, ends_complete, ends_refused}
 use Rattle.grind_cli.proofs.run.run.Goals as goal
 

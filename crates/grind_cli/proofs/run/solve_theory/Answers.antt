@@ -1,4 +1,4 @@
-use Rattle.std.proofs.Common.{◌≡◌, ℕ, List, ◌∙◌, subst, sym}
+use Rattle.std.proofs.Common.{List, ◌∙◌, subst, sym}
 use Rattle.std.proofs.lemmas.Bool.{false≢true}
 use Rattle.grind_schemes.specs.Goals.{GoalData}
 use Rattle.grind_cli.specs.Answers.{WritesReport}
