@@ -25,10 +25,14 @@ fn main(rt: HostRuntime) -> ExitCode {
     let Ok(Some(size)) = size_of(&rt) else {
         return ExitCode::from(3);
     };
-    match judged(rt.alloc(), size) {
-        Ok(Verdict::Typed) => ExitCode::from(0),
-        Ok(_) => ExitCode::from(1),
-        Err(Memory) => ExitCode::from(6),
+    let verdict = match judged(rt.alloc(), size) {
+        Ok(Verdict::Typed) => "typed",
+        Ok(_) => "not typed",
+        Err(Memory) => return ExitCode::from(6),
+    };
+    match println!(rt; "chain {size} {verdict}") {
+        Ok(()) => ExitCode::from(0),
+        Err(_) => ExitCode::from(5),
     }
 }
 
