@@ -1,1 +1,2 @@
 pub mod SchemeLemmas
+pub mod InstanceLemmas

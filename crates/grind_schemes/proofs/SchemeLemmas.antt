@@ -1,5 +1,5 @@
 -- Schemes by the items of their arguments.
-use Rattle.std.proofs.Common.{◌≡◌, ◌↔◌, ◌<◌, ◌⊎◌, inl, inr, zero, suc, arith, ℕ, length, slice_index_or, List, [], ◌∷◌, Option, Some, All, Vec, Global, refl, sym, ap, ◌∙◌, subst}
+use Rattle.std.proofs.Common.{◌≡◌, ◌↔◌, ◌<◌, ◌⊎◌, inl, inr, zero, suc, arith, ℕ, length, slice_index_or, List, [], ◌∷◌, All, Vec, Global, refl, sym, ap, ◌∙◌, subst}
 use Rattle.std.specs.Prelude.{map, Any}
 use Rattle.std.proofs.lemmas.List.Elements.{All-nil, All-cons, All-head, All-tail}
 use mathlib.Core.Former.{Count}
@@ -9,7 +9,7 @@ use Rattle.grind_schemes.specs.declared.scheme.Scheme.{Scheme, Apply, Apply', Ro
 use Rattle.grind_schemes.specs.Schemes.{scheme_sort, row_sorts, IsScheme, AreSchemes, HasVar, RowHasVar}
 
 -- the arguments of a scheme
-abbrev row_of : Scheme → (n : Count) × Row_of-Scheme n
+abbrev pub row_of : Scheme → (n : Count) × Row_of-Scheme n
 row_of (Apply' head sort shape args) = (_, args)
 row_of _ = (_, end_of-Scheme)
 

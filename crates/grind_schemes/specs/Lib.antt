@@ -4,3 +4,5 @@ pub mod Limits
 pub mod Schemes
 pub mod Theorems
 pub mod Laws
+pub mod Instances
+pub mod InstanceRows

@@ -3,6 +3,7 @@
 #![tactic(auto)]
 
 pub mod goal;
+pub mod instance;
 pub mod laws;
 pub mod lemmas;
 pub mod limits;
@@ -10,6 +11,7 @@ pub mod scheme;
 pub mod theorem;
 
 pub use goal::{Constant, Goal};
+pub use instance::intern_scheme;
 pub use lemmas::Lemmas;
 pub use limits::Limits;
 pub use scheme::Scheme;

@@ -1,6 +1,5 @@
-pub mod DeclarationSteps
-pub mod Determined
-pub mod Members
-pub mod NameSteps
-pub mod RelationSteps
-pub mod TermSteps
+pub mod Fronts
+pub mod Items
+pub mod ListLemmas
+pub mod OperatorLemmas
+pub mod TreeLemmas

@@ -1,6 +1,4 @@
-pub mod Grammar
-pub mod GrammarCases
-pub mod Kept
-pub mod Names
-pub mod Reading
-pub mod Syntax
+pub mod Places
+pub mod Depth
+pub mod Levels
+pub mod Built

@@ -1,9 +1,10 @@
-//! The declarations of a theory file. Tokens are at most one list of declarations, and the parser
-//! gives it or refuses tokens that are none.
+//! The reader of a theory file: from its tokens to its declarations.
 #![tactic(auto)]
 
-mod declarations;
-pub mod parse;
-pub mod syntax;
-mod terms;
-mod words;
+mod built;
+mod levels;
+mod lists;
+mod names;
+mod parts;
+mod sides;
+mod trees;

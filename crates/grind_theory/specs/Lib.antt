@@ -1,8 +1,4 @@
-pub mod Binders
-pub mod Declaring
-pub mod Evaluated
-pub mod Formulas
-pub mod GoalReading
+pub mod Faults
+pub mod Laws
+pub mod States
 pub mod Theories
-pub mod TheoryCases
-pub mod TheoryOf

@@ -1,149 +1,75 @@
--- Which theory the declarations of a file make.
-use Rattle.std.specs.Prelude.{◌≡◌, ◌≢◌, ℕ, ◌≤◌, List, [], ◌∷◌, ◌++◌, length, Some, slice_get, ◌⊎◌}
-use Rattle.std.specs.List.{AllPairs}
-use Rattle.grind_term_graph.specs.declared.node.Node.{Node}
-use Rattle.grind_term_graph.specs.declared.head.Head.{Head}
-use Rattle.grind_term_graph.specs.declared.head.Head.TheVariants as heads
-use Rattle.grind_term_graph.specs.Terms.{prop, opening as opening_nodes}
-use Rattle.grind_term_graph.specs.Placed.{placed}
-use Rattle.grind_schemes.specs.declared.goal.Constant.{Constant}
+-- Which theory the declarations of a file make, or which of them is the first bad one, and what is wrong with it.
+use Rattle.std.specs.Prelude.{◌≡◌, ℕ, suc, pos, List, [], ◌∷◌, ◌++◌}
+use Rattle.std.specs.List.{AllByRecursion}
+use Rattle.grind_schemes.specs.declared.scheme.Scheme.{Scheme}
 use Rattle.grind_schemes.specs.Goals.{GoalData}
-use Rattle.grind_syntax.specs.declared.syntax.Binary.{Binary}
-use Rattle.grind_syntax.specs.declared.syntax.Binary.TheVariants as binaries
-use Rattle.grind_syntax.specs.Syntax.{Term, Row, none, more, Apply, Two, Bound, Declaration, Sort, Fun, Goal}
-use Rattle.grind_signature.specs.Signatures.{Function, SignatureData, opening, IsHeld, with_sort, with_function, with_label}
+use Rattle.grind_schemes.specs.Theorems.{theorem_data}
+use Rattle.grind_grammar.specs.Terms.{Declaration, Sort, Fun, Theorem, Goal, Limit}
+use Rattle.grind_signature.specs.Signatures.{SignatureData, IsDeclared, with_sort, with_function, with_label}
+use Rattle.grind_theory.specs.declared.limits.LimitKind.{LimitKind}
+use Rattle.grind_theory.specs.declared.theory.Fault.{Fault}
+use Rattle.grind_theory.specs.declared.theory.Theory.{Theory}
+use Rattle.grind_theory.specs.States.{State, state_data, opening_state, limit_name, limits_data, with_limit, sort_number, sort_numbers, bound_sorts}
+use Rattle.grind_theory.specs.Faults.{IsNew, IsKnown, IsCounted, IsWellSorted, IsPatterned, IsSmall, IsTheoremOf, IsGoalOf, FaultOf}
 
--- what a name stands for in a term: the head that it makes, the sorts of its arguments, and the sort of the whole
-pub record Given : Type 0 where
-  pub head : Head
-  pub args : List ℕ
-  pub sort : ℕ
-
--- a constant of the goal, of no arguments
-abbrev pub GivesConstant : List Constant → List ℕ → Given → Type 0
-GivesConstant constants name given =
-    (c : ℕ) × (k : Constant) × (slice_get constants c ≡ Some k) × (k.name ≡ name)
-    × (given ≡ record { head = heads.Const c; args = []; sort = k.sort })
-
--- a declared function
-abbrev pub GivesFunction : SignatureData → List ℕ → Given → Type 0
-GivesFunction s name given =
-    (f : ℕ) × (g : Function) × (slice_get s.functions f ≡ Some g) × (g.name ≡ name)
-    × (given ≡ record { head = heads.Fun f; args = g.args; sort = g.result })
-
--- the name stands for this in the terms of a goal with these constants
-abbrev pub Gives : SignatureData → List Constant → List ℕ → Given → Type 0
-Gives s constants name given = GivesConstant constants name given ⊎ GivesFunction s name given
-
--- the nodes before become the nodes after as the relation of nodes left and right is put among them: it is node n.
--- Of two sides that differ, their equation is put there first, and then its negation
-abbrev pub Relates : Binary → List Node → ℕ → ℕ → List Node → ℕ → Type 0
-Relates binaries.Eq before left right after n =
-    (after, n) ≡ placed before (record { head = heads.Eq; sort = prop; args = left ∷ right ∷ [] })
-Relates binaries.Ne before left right after n =
-    (mid : List Node) × (same : ℕ) × ((mid, same) ≡ placed before (record { head = heads.Eq; sort = prop; args = left ∷ right ∷ [] }))
-    × ((after, n) ≡ placed mid (record { head = heads.Not; sort = prop; args = same ∷ [] }))
-
-module _ (gives : List ℕ → Given → Type 0) where
-  abbrev mutual
-    -- the term has this sort: each name stands for something, and has arguments of its number and sorts, and the two sides
-    -- of a relation have one sort
-    pub HasSort : Term → ℕ → Type 0
-    HasSort (Apply name row) sort = (given : Given) × gives name given × HaveSorts row given.args × (sort ≡ given.sort)
-    HasSort (Two op a b) sort = (side : ℕ) × HasSort a side × HasSort b side × (sort ≡ prop)
-
-    -- the parts have these sorts, one each
-    pub HaveSorts : Row → List ℕ → Type 0
-    HaveSorts none [] = Unit {0}
-    HaveSorts none (sort ∷ sorts) = ⊥
-    HaveSorts (more t row) [] = ⊥
-    HaveSorts (more t row) (sort ∷ sorts) = HasSort t sort × HaveSorts row sorts
-
-  abbrev mutual
-    -- the nodes before become the nodes after as the term is put among them, its parts first and from the left: it is node n
-    pub Interns : List Node → Term → List Node → ℕ → Type 0
-    Interns before (Apply name row) after n =
-        (given : Given) × gives name given × (mid : List Node) × (args : List ℕ) × InternsRow before row mid args
-        × ((after, n) ≡ placed mid (record { head = given.head; sort = given.sort; args = args }))
-    Interns before (Two op a b) after n =
-        (one : List Node) × (left : ℕ) × Interns before a one left
-        × ((two : List Node) × (right : ℕ) × Interns one b two right × Relates op two left right after n)
-
-    -- the same for the parts, one after another
-    pub InternsRow : List Node → Row → List Node → List ℕ → Type 0
-    InternsRow before none after args = (after ≡ before) × (args ≡ [])
-    InternsRow before (more t row) after args =
-        (mid : List Node) × (n : ℕ) × Interns before t mid n
-        × ((rest : List ℕ) × InternsRow mid row after rest × (args ≡ n ∷ rest))
-
-  -- each term is a formula
-  abbrev pub AllFormulas : List Term → Type 0
-  AllFormulas [] = Unit {0}
-  AllFormulas (t ∷ ts) = HasSort t prop × AllFormulas ts
-
-  -- terms put among the nodes, one after another
-  abbrev pub InternsAll : List Node → List Term → List Node → List ℕ → Type 0
-  InternsAll before [] after ids = (after ≡ before) × (ids ≡ [])
-  InternsAll before (t ∷ ts) after ids =
-      (mid : List Node) × (n : ℕ) × Interns before t mid n
-      × ((rest : List ℕ) × InternsAll mid ts after rest × (ids ≡ n ∷ rest))
-
--- the binders make these constants: names that nothing else has, and declared sorts
-abbrev pub Binds : SignatureData → Bound → Constant → Type 0
-Binds s bound constant = (constant.name ≡ bound.name) × ¬ IsHeld s bound.name × (slice_get s.sorts constant.sort ≡ Some bound.sort)
-
-abbrev pub BindsAll : SignatureData → List Bound → List Constant → Type 0
-BindsAll s [] [] = Unit {0}
-BindsAll s (b ∷ bounds) (k ∷ constants) = Binds s b k × BindsAll s bounds constants
-BindsAll s [] (k ∷ constants) = ⊥
-BindsAll s (b ∷ bounds) [] = ⊥
-
--- the most nodes that a goal's table holds
-abbrev pub most_nodes : ℕ
-most_nodes = 65536
-
--- the goal of a declaration: its constants are the binders, its terms the hypotheses in order and the conclusion last
-pub record IsGoalOf (s : SignatureData) (label : List ℕ) (bounds : List Bound) (premises : List Term) (conclusion : Term) (goal : GoalData) : Type 0 where
-  pub name : goal.name ≡ label
-  pub new : ¬ IsHeld s label
-  pub constants : BindsAll s bounds goal.constants
-  pub differ : AllPairs (λ (a b : Constant). a.name ≢ b.name) goal.constants
-  pub hyps : AllFormulas (Gives s goal.constants) premises
-  pub show : HasSort (Gives s goal.constants) conclusion prop
-  pub nodes : (mid : List Node) × InternsAll (Gives s goal.constants) opening_nodes premises mid goal.hyps
-      × Interns (Gives s goal.constants) mid conclusion goal.terms.nodes goal.show
-  pub size : length goal.terms.nodes ≤ most_nodes
-  pub limit : goal.terms.limit ≡ most_nodes
-
--- what is declared so far
-pub record State : Type 0 where
-  pub signature : SignatureData
-  pub goals : List GoalData
-
--- the names of sorts are those of declared sorts
-abbrev pub AreSorts : SignatureData → List (List ℕ) → List ℕ → Type 0
-AreSorts s [] [] = Unit {0}
-AreSorts s (name ∷ names) (n ∷ sorts) = (slice_get s.sorts n ≡ Some name) × AreSorts s names sorts
-AreSorts s [] (n ∷ sorts) = ⊥
-AreSorts s (name ∷ names) [] = ⊥
-
--- a declaration leads from one state to the next
-abbrev pub Takes : State → Declaration → State → Type 0
-Takes before (Sort name) after =
-    ¬ IsHeld before.signature name
-    × (after ≡ record { signature = with_sort before.signature name; goals = before.goals })
-Takes before (Fun name args result) after =
-    ¬ IsHeld before.signature name × ((f : Function) × (f.name ≡ name) × AreSorts before.signature args f.args
-    × (slice_get before.signature.sorts f.result ≡ Some result) × (length args ≤ 16)
-    × (after ≡ record { signature = with_function before.signature f; goals = before.goals }))
-Takes before (Goal name bounds hyps show) after =
+-- what the declaration adds: a sort, a function, a theorem behind those before it, a goal behind those before it, or the value
+-- of a limit. The names of theorems and goals are labels
+abbrev pub Adds : State → Declaration → State → Type 0
+Adds before (Sort name) after =
+    after ≡ state_data (with_sort before.signature name) before.theorems before.limits before.set before.goals
+Adds before (Fun name sorts result) after =
+    after ≡ state_data (with_function before.signature (record {
+      name = name;
+      args = sort_numbers before.signature sorts;
+      result = sort_number before.signature result;
+    })) before.theorems before.limits before.set before.goals
+Adds before (Theorem name bounds annotations body) after =
+    (scheme : Scheme) × (patterns : List (List Scheme)) × IsTheoremOf before.signature bounds annotations body scheme patterns
+    × (after ≡ state_data (with_label before.signature name)
+    (before.theorems ++ theorem_data name (sort_numbers before.signature (bound_sorts bounds)) scheme patterns ∷ [])
+    before.limits before.set before.goals)
+Adds before (Goal name bounds hyps show) after =
     (goal : GoalData) × IsGoalOf before.signature name bounds hyps show goal
-    × (after ≡ record { signature = with_label before.signature name; goals = before.goals ++ goal ∷ [] })
+    × (after ≡ state_data (with_label before.signature name) before.theorems before.limits before.set (before.goals ++ goal ∷ []))
+Adds before (Limit name value) after =
+    (kind : LimitKind) × (n : ℕ) × (name ≡ limit_name kind) × (value ≡ pos n)
+    × (after ≡ state_data before.signature before.theorems (with_limit before.limits kind n) (before.set ++ kind ∷ []) before.goals)
 
+-- a declaration leads from one state to the next: it is all that is asked of it, and adds what it declares
+pub record Takes (before : State) (d : Declaration) (after : State) : Type 0 where
+  pub fresh : IsNew before d
+  pub known : IsKnown before d
+  pub counted : IsCounted before d
+  pub sorted : IsWellSorted before d
+  pub patterned : IsPatterned before d
+  pub small : IsSmall before d
+  pub adds : Adds before d after
+
+-- declarations, one after another
 abbrev pub TakesAll : State → List Declaration → State → Type 0
 TakesAll before [] after = after ≡ before
-TakesAll before (d ∷ decls) after = (mid : State) × Takes before d mid × TakesAll mid decls after
+TakesAll before (d ∷ ds) after = (mid : State) × Takes before d mid × TakesAll mid ds after
 
--- nothing is declared but Prop and Int
-abbrev pub opening_state : State
-opening_state = record { signature = opening; goals = [] }
+-- the first declaration that has a fault, counted from 1, and its first fault
+pub data RefusedAt : State → List Declaration → ℕ → Fault → Type 0 where
+  here : {before : State} {d : Declaration} {ds : List Declaration} {fault : Fault} → FaultOf before d fault →
+      RefusedAt before (d ∷ ds) 1 fault
+  later : {before mid : State} {d : Declaration} {ds : List Declaration} {number : ℕ} {fault : Fault} → Takes before d mid →
+      RefusedAt mid ds number fault → RefusedAt before (d ∷ ds) (suc number) fault
+
+-- the signature, theorems, limits and goals of a theory, and the limits that were set, as a state
+abbrev pub state_of : Theory → List LimitKind → State
+state_of theory set =
+    state_data theory.signature theory.lemmas.theorems (limits_data theory.lemmas.limits) set theory.goals
+
+-- the declarations, from nothing declared, lead to the theory
+abbrev pub IsTheoryOf : List Declaration → Theory → Type 0
+IsTheoryOf ds theory = (set : List LimitKind) × TakesAll opening_state ds (state_of theory set)
+
+-- each node of the goal is declared
+abbrev pub IsGoalDeclared : SignatureData → GoalData → Type 0
+IsGoalDeclared s goal = AllByRecursion (IsDeclared s goal.constants goal.terms.nodes) goal.terms.nodes
+
+-- each node of each goal is declared
+abbrev pub AreDeclared : SignatureData → List GoalData → Type 0
+AreDeclared s goals = AllByRecursion (IsGoalDeclared s) goals

@@ -1,9 +1,6 @@
-//! The theory that declarations make: what each name stands for, and the terms of each goal.
+//! The theory that declarations make: what each name stands for, the theorems with their patterns, the limits of a
+//! search, and the terms of each goal; or the first declaration that is bad, and what is wrong with it.
 #![tactic(auto)]
 
-pub mod binder_reader;
-pub mod constants;
-pub mod elaborate;
-pub mod goal_reader;
-pub mod term_reader;
+pub mod limits;
 pub mod theory;

@@ -1,3 +1,10 @@
-pub mod Fronts
+pub mod CharacterLemmas
+pub mod OneStart
+pub mod PieceLemmas
+pub mod PlainNames
+pub mod Progress
 pub mod Readings
-pub mod TokenCases
+pub mod RunLemmas
+pub mod Starts
+pub mod SymbolChoice
+pub mod Totality

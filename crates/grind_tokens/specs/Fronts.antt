@@ -1,9 +1,26 @@
 -- The piece with which a text begins, as the reader's own functions say it.
-use Rattle.std.specs.Prelude.{◌≡◌, ℕ, ◌≤◌, List, [], ◌∷◌, ◌++◌, length, take, drop, Option, Some, None}
+use Rattle.std.specs.Prelude.{◌≡◌, ℕ, List, [], ◌∷◌, ◌++◌, length, Option, Some, None, encode_utf8}
+use Rattle.std.specs.Char.{IsScalar}
 use Rattle.grind_tokens.specs.declared.tokens.TokenKind.{TokenKind}
 use Rattle.grind_tokens.specs.declared.tokens.Token.{Token}
-use Rattle.grind_tokens.specs.declared.tokens.Front.{Front}
-use Rattle.grind_tokens.specs.Tokens.{IsNameStart, IsGap, IsToken}
+use Rattle.grind_tokens.specs.declared.characters.Run.{Run}
+use Rattle.grind_tokens.specs.declared.characters.Run.TheVariants.{Name, Comment}
+use Rattle.grind_tokens.specs.declared.pieces.Front.{Front}
+use Rattle.grind_tokens.specs.Tokens.{IsNameStart, IsNameChar, IsCommentChar, IsText, StopsChars, Begins, IsGap, IsToken}
+
+-- the characters of which a run is made
+abbrev pub IsOf : Run → ℕ → Type 0
+IsOf Name c = IsNameChar c
+IsOf Comment c = IsCommentChar c
+
+-- the first n bytes of the text are its longest run of characters of which P holds
+pub record Runs (P : ℕ → Type 0) (text : List ℕ) (n : ℕ) : Type 0 where
+  pub piece : List ℕ
+  pub rest : List ℕ
+  pub splits : text ≡ piece ++ rest
+  pub size : n ≡ length piece
+  pub good : IsText P piece
+  pub stops : StopsChars P rest
 
 -- a token of the kind, or what stands between tokens where there is no kind
 abbrev pub IsFront : Option TokenKind → List ℕ → List ℕ → Type 0
@@ -11,17 +28,16 @@ IsFront None piece rest = IsGap piece rest
 IsFront (Some kind) piece rest = IsToken kind piece rest
 
 -- the text begins with such a piece of that length
-abbrev pub BeginsWith : List ℕ → Front → Type 0
-BeginsWith text f = (f.len ≤ length text) × IsFront f.kind (take f.len text) (drop f.len text)
+pub record BeginsWith (text : List ℕ) (f : Front) : Type 0 where
+  pub piece : List ℕ
+  pub rest : List ℕ
+  pub splits : text ≡ piece ++ rest
+  pub size : f.len ≡ length piece
+  pub front : IsFront f.kind piece rest
 
--- the text begins with no piece
-abbrev pub HasNoFront : List ℕ → Type 0
-HasNoFront text = (kind : Option TokenKind) (piece rest : List ℕ) → text ≡ piece ++ rest → ¬ IsFront kind piece rest
-
--- the text goes on with a byte with which a name may begin
-abbrev pub BeginsName : List ℕ → Type 0
-BeginsName [] = ⊥
-BeginsName (b ∷ bs) = IsNameStart b
+-- the text goes on with a character that may begin a name
+abbrev pub BeginsName : List ℕ → ℕ → Type 0
+BeginsName text c = IsScalar c × IsNameStart c × Begins text (encode_utf8 c)
 
 -- the tokens that a piece from start to end gives
 abbrev pub tokens_of : Option TokenKind → ℕ → ℕ → List Token

@@ -1,2 +1,3 @@
 pub mod Fronts
+pub mod TokenCases
 pub mod Tokens

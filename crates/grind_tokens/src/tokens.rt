@@ -1,16 +1,13 @@
 //! The tokens of a theory file, read from its bytes in one pass.
-ghost use Rattle.std.specs.Prelude.{◌≡◌, ◌≤◌, ◌↔◌, ◌<◌, ◌^◌, ◌++◌, ℕ, length, take, drop, All, IsTrue, IfOk, IfSome, IfNone, IsErrOf, OnOk};
-ghost use Rattle.std.specs.List.{AllByRecursion};
-ghost use Rattle.grind_tokens.specs.Fronts.{BeginsWith, HasNoFront, BeginsName, tokens_of};
-ghost use Rattle.grind_tokens.specs.Tokens.{IsBlank, IsNameStart, IsNameByte, IsCommentByte, Stops, EndsLine, Begins, IsLongest, spelling, dashes, TokensOf, HasNoTokens, OneReading, IsPiece, TokensArePieces, NamesArePlain};
+ghost use Rattle.std.specs.Prelude.{◌≡◌, ◌≤◌, ◌++◌, length, All, IfOk, IfErr, OnOk};
+ghost use Rattle.grind_tokens.specs.Fronts.{tokens_of};
+ghost use Rattle.grind_tokens.specs.Tokens.{TokensOf, IsRefusal, IsPiece, SomeReading, OneReading, NotBoth, OneBreak, TokensArePieces, NamesArePlain};
 
+use crate::pieces::first_front;
 use grind_outside::{List, Memory};
 use std::alloc::Global;
 
-// How many bytes a name has at most.
-const NAME_LIMIT: usize = 255;
-
-/// The marks of the language.
+/// The symbols of the language.
 #[derive(Clone, Copy, Debug, PartialEq, Eq)]
 pub enum Sym {
     /// `.`
@@ -25,10 +22,38 @@ pub enum Sym {
     LeftParen,
     /// `)`
     RightParen,
+    /// `[`
+    LeftSquare,
+    /// `]`
+    RightSquare,
     /// `=`
     Eq,
     /// `!=`
     Ne,
+    /// `<`
+    Lt,
+    /// `<=`
+    Le,
+    /// `<->`
+    Iff,
+    /// `>`
+    Gt,
+    /// `>=`
+    Ge,
+    /// `+`
+    Plus,
+    /// `-`
+    Minus,
+    /// `*`
+    Star,
+    /// `/\`
+    And,
+    /// `\/`
+    Or,
+    /// `~`
+    Not,
+    /// `->`
+    Arrow,
     /// `|-`
     Turnstile,
 }
@@ -36,8 +61,11 @@ pub enum Sym {
 /// What a token is.
 #[derive(Clone, Copy, Debug, PartialEq, Eq)]
 pub enum TokenKind {
-    /// A name: ASCII letters, digits and `_`, beginning with no digit, at most 255 bytes.
+    /// A name: `_` or a character with the property XID_Start, then characters with XID_Continue,
+    /// at most 255 bytes.
     Word,
+    /// A number, written in decimal digits: from 0 to 2^127 - 1.
+    Number(i128),
     /// A symbol.
     Symbol(Sym),
 }
@@ -53,11 +81,24 @@ pub struct Token {
     pub end: u32,
 }
 
-/// Why no tokens were read.
+/// Why no tokens were read. An offset counts bytes from the beginning of the text.
 #[derive(Clone, Copy, Debug, PartialEq, Eq)]
 pub enum LexRefusal {
-    /// The text has no tokens.
-    Refused,
+    /// Neither white space nor a comment nor a token begins here, or, in a comment, no character of UTF-8.
+    BadByte {
+        /// The offset of the byte.
+        offset: u32,
+    },
+    /// A number is larger than 2^127 - 1.
+    NumberTooLarge {
+        /// The offset of its first digit.
+        offset: u32,
+    },
+    /// A name is longer than 255 bytes.
+    NameTooLong {
+        /// The offset of its first byte.
+        offset: u32,
+    },
     /// Memory was wanted, and there was none.
     Memory,
 }
@@ -69,160 +110,6 @@ impl From<Memory> for LexRefusal {
 
     fn from(_error: Memory) -> LexRefusal {
         LexRefusal::Memory
-    }
-}
-
-// Whether a byte is white space.
-fn is_blank(byte: u8) -> bool
-    ensures { IsTrue result ↔ IsBlank byte }
-{
-    matches!(byte, b' ' | b'\t' | b'\r' | b'\n')
-}
-
-// Whether a name may begin with a byte.
-fn is_name_start(byte: u8) -> bool
-    ensures { IsTrue result ↔ IsNameStart byte }
-{
-    byte.is_ascii_alphabetic() || byte == b'_'
-}
-
-// Whether a byte may stand in a name after the first.
-fn is_name_byte(byte: u8) -> bool
-    ensures { IsTrue result ↔ IsNameByte byte }
-{
-    is_name_start(byte) || byte.is_ascii_digit()
-}
-
-// Whether a byte may stand in a comment.
-fn is_comment_byte(byte: u8) -> bool
-    ensures { IsTrue result ↔ IsCommentByte byte }
-{
-    byte.is_ascii() && byte != b'\n'
-}
-
-// A piece at the front of a text: a token of a kind, or a gap where there is no kind.
-#[derive(Clone, Copy)]
-struct Front {
-    kind: Option<TokenKind>,
-    len: usize,
-}
-
-// How many bytes at the front may stand in a name.
-fn name_len(text: &[u8]) -> usize
-    ensures within { result ≤ length text.now }
-    ensures front { AllByRecursion IsNameByte (take result text.now) }
-    ensures stops { Stops IsNameByte (drop result text.now) }
-{
-    text.iter().take_while(|b| is_name_byte(**b)).count()
-}
-
-// How many bytes at the front may stand in a comment.
-fn comment_len(body: &[u8]) -> usize
-    ensures within { result ≤ length body.now }
-    ensures front { AllByRecursion IsCommentByte (take result body.now) }
-    ensures stops { Stops IsCommentByte (drop result body.now) }
-{
-    body.iter().take_while(|b| is_comment_byte(**b)).count()
-}
-
-// Whether a text is at its end or goes on with a line feed.
-fn ends_line(text: &[u8]) -> bool
-    ensures { IsTrue result ↔ EndsLine text.now }
-{
-    matches!(text, [] | [b'\n', ..])
-}
-
-// The comment of which the bytes behind its two minus signs are given.
-fn comment_at(body: &[u8]) -> Option<Front>
-    requires { length body.now < 2 ^ 32 }
-    ensures some { IfSome result (BeginsWith (dashes ++ body.now)) }
-    ensures none { IfNone result (HasNoFront (dashes ++ body.now)) }
-{
-    let len = comment_len(body);
-    let (_, rest) = body.split_at(len);
-    if ends_line(rest) {
-        return Some(Front {
-            kind: None,
-            len: len + 2,
-        });
-    }
-    None
-}
-
-// The name at the front of a text that begins as a name does.
-fn word_at(text: &[u8]) -> Option<Front>
-    requires { BeginsName text.now }
-    ensures some { IfSome result (BeginsWith text.now) }
-    ensures none { IfNone result (HasNoFront text.now) }
-{
-    let len = name_len(text);
-    if len > NAME_LIMIT {
-        return None;
-    }
-    Some(Front {
-        kind: Some(TokenKind::Word),
-        len,
-    })
-}
-
-// The longest symbol with which a text begins.
-fn longest_symbol(text: &[u8]) -> Option<Sym>
-    ensures some { IfSome result (λ s. Begins text.now (spelling s) × IsLongest s text.now) }
-    ensures none { IfNone result ((s : Sym) → ¬ Begins text.now (spelling s)) }
-{
-    match text {
-        [b'.', ..] => Some(Sym::Dot),
-        [b',', ..] => Some(Sym::Comma),
-        [b':', ..] => Some(Sym::Colon),
-        [b';', ..] => Some(Sym::Semicolon),
-        [b'(', ..] => Some(Sym::LeftParen),
-        [b')', ..] => Some(Sym::RightParen),
-        [b'=', ..] => Some(Sym::Eq),
-        [b'!', b'=', ..] => Some(Sym::Ne),
-        [b'|', b'-', ..] => Some(Sym::Turnstile),
-        _ => None,
-    }
-}
-
-// How many bytes a symbol has.
-fn symbol_len(symbol: Sym) -> usize
-    ensures { result ≡ length (spelling symbol) }
-{
-    match symbol {
-        Sym::Turnstile | Sym::Ne => 2,
-        _ => 1,
-    }
-}
-
-// The symbol at the front of a text that begins as nothing else.
-fn symbol_at(text: &[u8]) -> Option<Front>
-    requires no_blank { Stops IsBlank text.now }
-    requires no_name { Stops IsNameStart text.now }
-    requires no_comment { ¬ Begins text.now dashes }
-    ensures some { IfSome result (BeginsWith text.now) }
-    ensures none { IfNone result (HasNoFront text.now) }
-{
-    let Some(symbol) = longest_symbol(text) else {
-        return None;
-    };
-    let len = symbol_len(symbol);
-    Some(Front {
-        kind: Some(TokenKind::Symbol(symbol)),
-        len,
-    })
-}
-
-// The piece with which a text begins.
-fn first_front(text: &[u8]) -> Option<Front>
-    requires { length text.now < 2 ^ 32 }
-    ensures some { IfSome result (BeginsWith text.now) }
-    ensures none { IfNone result (HasNoFront text.now) }
-{
-    match text {
-        [b'-', b'-', body @ ..] => comment_at(body),
-        [first, ..] if is_blank(*first) => Some(Front { kind: None, len: 1 }),
-        [first, ..] if is_name_start(*first) => word_at(text),
-        _ => symbol_at(text),
     }
 }
 
@@ -245,19 +132,20 @@ fn keep(
 ///
 /// # Errors
 ///
-/// `Refused` where the text has none, `Memory` where memory was wanted.
+/// The first fault of the text, by its least offset, or `Memory` where memory was wanted.
 pub fn tokens(alloc: Global, text: &[u8]) -> Result<List<Token>, LexRefusal>
     requires { length text.now ≤ 4194304 }
     ensures ok { IfOk result (TokensOf text.now) }
     ensures pieces { IfOk result (All (IsPiece text.now)) }
-    ensures refused { IsErrOf result LexRefusal.Refused → HasNoTokens text.now }
+    ensures refused { IfErr result (IsRefusal text.now) }
 {
     let mut tokens = List::new(alloc);
     let mut rest = text;
     let mut at = 0;
     while rest.len() > 0 {
-        let Some(front) = first_front(rest) else {
-            return Err(LexRefusal::Refused);
+        let front = match first_front(rest, at) {
+            Ok(front) => front,
+            Err(fault) => return Err(fault),
         };
         let (_, after) = rest.split_at(front.len);
         let end = at + front.len as u32;
@@ -268,9 +156,12 @@ pub fn tokens(alloc: Global, text: &[u8]) -> Result<List<Token>, LexRefusal>
     Ok(tokens)
 }
 
-/// At most one list of tokens stands for a text.
+/// Each text has one list of tokens, or else one first fault.
 pub fn one_reading()
-    ensures { OneReading }
+    ensures some { SomeReading }
+    ensures tokens { OneReading }
+    ensures not_both { NotBoth }
+    ensures fault { OneBreak }
 {}
 
 /// A name can stand as one word of a line.

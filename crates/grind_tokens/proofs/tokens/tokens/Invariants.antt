@@ -1,5 +1,5 @@
 use Rattle.std.proofs.Common.{length}
-use Rattle.grind_tokens.proofs.Readings.{Reads}
+use Rattle.grind_tokens.proofs.Progress.{Reads}
 use Rattle.grind_tokens.proofs.tokens.tokens.Given as goal
 
 abbrev pub invariant-loop-rest : goal.invariant-loop-rest

@@ -1,0 +1,13 @@
+pub mod CaseLemmas
+pub mod ChainDone
+pub mod ChainSound
+pub mod DeclarationDone
+pub mod DeclarationSound
+pub mod FileLemmas
+pub mod FitLemmas
+pub mod KeepsLemmas
+pub mod LawLemmas
+pub mod PieceLemmas
+pub mod ReadLemmas
+pub mod TermDone
+pub mod TermSound

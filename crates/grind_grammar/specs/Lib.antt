@@ -1,0 +1,12 @@
+pub mod Files
+pub mod Grammar
+pub mod GrammarCases
+pub mod Keeps
+pub mod Laws
+pub mod Lexemes
+pub mod Names
+pub mod Operators
+pub mod Parentheses
+pub mod Reading
+pub mod Strength
+pub mod Terms

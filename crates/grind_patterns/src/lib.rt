@@ -1,0 +1,2 @@
+//! The pattern terms of a theorem.
+#![tactic(auto)]

@@ -1,0 +1,4 @@
+pub mod Givens
+pub mod KnownTerms
+pub mod SortedTerms
+pub mod Trees

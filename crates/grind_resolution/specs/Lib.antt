@@ -1,0 +1,5 @@
+pub mod Resolved
+pub mod Rows
+pub mod Scopes
+pub mod Sizes
+pub mod Sorting

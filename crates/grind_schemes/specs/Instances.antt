@@ -1,0 +1,44 @@
+-- What a scheme becomes among nodes once nodes stand for its variables.
+use Rattle.std.specs.Prelude.{◌≡◌, ℕ, List, [], ◌∷◌, ◌++◌, Some, map, slice_index_or}
+use Rattle.grind_term_graph.specs.declared.head.Head.{Head}
+use Rattle.grind_term_graph.specs.declared.node.Node.{Node}
+use Rattle.grind_term_graph.specs.Terms.{Terms, sort_at}
+use Rattle.grind_term_graph.specs.Placed.{placed}
+use Rattle.grind_schemes.specs.declared.scheme.Scheme.{Scheme, Var, Apply', Row_of-Scheme, end_of-Scheme, more_of-Scheme}
+use Rattle.grind_schemes.specs.Schemes.{IsScheme}
+
+-- the node of these parts
+abbrev pub node_of : Head → ℕ → List ℕ → Node
+node_of head sort args = record { head = head; sort = sort; args = args }
+
+-- the nodes once the scheme is put among them, and the number of its node: arguments go before their node and from
+-- the left, and a node that stands there already is not put there again
+abbrev mutual
+  pub interned : List Node → List ℕ → Scheme → List Node × ℕ
+  interned nodes subst (Var number) = (nodes, slice_index_or subst number 0)
+  interned nodes subst (Apply' head sort shape args) =
+      let done = interned_row nodes subst args in placed done.0 (node_of head sort done.1)
+
+  pub interned_row : {m : _} → List Node → List ℕ → Row_of-Scheme m → List Node × List ℕ
+  interned_row nodes subst end_of-Scheme = (nodes, [])
+  interned_row nodes subst (more_of-Scheme first rest) =
+      let one = interned nodes subst first in
+      let others = interned_row one.0 subst rest in (others.0, one.1 ∷ others.1)
+
+-- the list begins with the other
+abbrev pub BeginsWith : List Node → List Node → Type 0
+BeginsWith front whole = (rest : List Node) × (whole ≡ front ++ rest)
+
+-- a table on its way to these nodes, with some of what is new there and the same limit
+pub record IsUnderway (before after : Terms) (nodes : List Node) : Type 0 where
+  pub grows : BeginsWith before.nodes after.nodes
+  pub within : BeginsWith after.nodes nodes
+  pub limit : after.limit ≡ before.limit
+
+-- the substitution has a node of the right sort for each variable
+abbrev pub IsSubstitution : List Node → List ℕ → List ℕ → Type 0
+IsSubstitution nodes vars subst = map (sort_at nodes) subst ≡ map Some vars
+
+-- the scheme is well formed over variables for which the substitution has nodes
+abbrev pub Suits : List Node → List ℕ → Scheme → Type 0
+Suits nodes subst scheme = (vars : List ℕ) × IsSubstitution nodes vars subst × IsScheme vars scheme

@@ -1,0 +1,88 @@
+//! The terms that schemes become once nodes stand for their variables.
+ghost use Rattle.std.specs.Prelude.{◌≡◌, ◌<◌, ◌≤◌, length, IfOk, IsErrOf};
+ghost use Rattle.grind_term_graph.specs.declared.table.TermRefusal.{TermRefusal};
+ghost use Rattle.grind_term_graph.specs.Shape.{WellShaped};
+ghost use Rattle.grind_term_graph.specs.Placed.{placed};
+ghost use Rattle.grind_schemes.specs.Instances.{node_of, interned, IsUnderway, Suits};
+ghost use Rattle.grind_schemes.specs.InstanceRows.{interned_list, SuitsEach};
+
+use crate::scheme::Scheme;
+use grind_outside::List;
+use grind_term_graph::{Args, Head, Node, NodeId, SortId, TermRefusal, TermTable};
+use std::alloc::Global;
+
+/// The node of a scheme, where these nodes stand for its variables. Nodes that are absent go last, arguments before
+/// their node and from the left. There is no roll-back: after a refusal the table may have some of the nodes.
+///
+/// # Errors
+///
+/// `Full` only where more nodes are needed than the limit allows; `Memory` where a node finds none.
+#[cycle(interning)]
+pub fn intern_scheme(
+    alloc: Global,
+    scheme: &Scheme,
+    subst: &[NodeId],
+    table: &mut TermTable,
+) -> Result<NodeId, TermRefusal>
+    requires { Suits table.old.nodes subst.now scheme.now }
+    ensures ok { IfOk result (λ id. (table.new.nodes, id) ≡ interned table.old.nodes subst.now scheme.now) }
+    ensures full { IsErrOf result TermRefusal.Full → table.old.limit < length (interned table.old.nodes subst.now scheme.now).0 }
+    ensures underway { IsUnderway table.old table.new (interned table.old.nodes subst.now scheme.now).0 }
+{
+    match scheme {
+        Scheme::Var(number) => Ok(subst[*number as usize]),
+        Scheme::Apply { head, sort, args } => {
+            let ids = match intern_args(alloc, args, subst, table) {
+                Ok(ids) => ids,
+                Err(refusal) => return Err(refusal),
+            };
+            intern_node(alloc, *head, *sort, ids.as_slice(), table)
+        }
+    }
+}
+
+// The nodes of several schemes, one behind the other.
+#[cycle(interning)]
+fn intern_args(
+    alloc: Global,
+    args: &[Scheme],
+    subst: &[NodeId],
+    table: &mut TermTable,
+) -> Result<List<NodeId>, TermRefusal>
+    requires { SuitsEach table.old.nodes subst.now args.now }
+    ensures ok { IfOk result (λ ids. (table.new.nodes, ids) ≡ interned_list table.old.nodes subst.now args.now) }
+    ensures full { IsErrOf result TermRefusal.Full → table.old.limit < length (interned_list table.old.nodes subst.now args.now).0 }
+    ensures underway { IsUnderway table.old table.new (interned_list table.old.nodes subst.now args.now).0 }
+{
+    let mut ids = List::new(alloc);
+    for arg in args {
+        let id = match intern_scheme(alloc, arg, subst, table) {
+            Ok(id) => id,
+            Err(refusal) => return Err(refusal),
+        };
+        ids.push(id)?;
+    }
+    Ok(ids)
+}
+
+// The node of a head at these arguments. It goes last if it is new.
+fn intern_node(
+    alloc: Global,
+    head: Head,
+    sort: SortId,
+    ids: &[NodeId],
+    table: &mut TermTable,
+) -> Result<NodeId, TermRefusal>
+    requires fits { WellShaped table.old.nodes (node_of head sort ids.now) }
+    requires few { length ids.now ≤ 16 }
+    ensures ok { IfOk result (λ id. (table.new.nodes, id) ≡ placed table.old.nodes (node_of head sort ids.now)) }
+    ensures full { IsErrOf result TermRefusal.Full → table.old.limit < length (placed table.old.nodes (node_of head sort ids.now)).0 }
+    ensures underway { IsUnderway table.old table.new (placed table.old.nodes (node_of head sort ids.now)).0 }
+{
+    let args = Args::from_slice(alloc, ids)?;
+    let node = Node { head, sort, args };
+    match table.intern(alloc, node) {
+        Ok(id) => Ok(id),
+        Err(refusal) => Err(refusal),
+    }
+}

@@ -1,5 +1,0 @@
-use Rattle.grind_theory.proofs.OneTheory.{one_theory}
-use Rattle.grind_theory.proofs.elaborate.one_theory.Goals as goal
-
-pub returns : goal.returns
-returns c = one_theory

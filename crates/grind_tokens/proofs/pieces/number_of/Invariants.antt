@@ -1,0 +1,11 @@
+use Rattle.std.proofs.Common.{◌≡◌, ◌<◌, ◌^◌, length}
+use Rattle.std.specs.List.{AllByRecursion}
+use Rattle.std.specs.Str.Parse.{digits_value, digits_value_after}
+use Rattle.grind_tokens.specs.Tokens.{IsDigit}
+use Rattle.grind_tokens.proofs.pieces.number_of.Given as goal
+
+abbrev pub invariant-loop-digit : goal.invariant-loop-digit
+invariant-loop-digit l = (digits_value_after 10 l.value l.rest ≡ digits_value 10 l.fn.digits) × (l.value < 2 ^ 127) × AllByRecursion IsDigit l.rest
+
+abbrev pub decreases-loop-digit : goal.decreases-loop-digit
+decreases-loop-digit l = length l.rest
