@@ -4,7 +4,9 @@ use Rattle.grind_outside.specs.Outside.{CountsFault}
 use Rattle.grind_cli.specs.declared.status.Status.{Status}
 use Rattle.grind_cli.specs.declared.status.Status.TheVariants.{AllClosed, SomeOpen, TheoryRefused, WordsRefused, ReadFault, WriteFault, Memory, ReportMalformed, TooLong}
 use Rattle.grind_theory.specs.declared.theory.Theory.{Theory}
-use Rattle.grind_cli.specs.TheoryFiles.{TheoryOf}
+use Rattle.grind_cli.specs.TheoryFiles.{TheoryOf, IsRefusedFor}
+use Rattle.grind_cli.specs.declared.ending.Ending.{Ending}
+use Rattle.grind_cli.specs.declared.ending.Ending.TheVariants as endings
 use Rattle.grind_report.specs.Report.{Report}
 use Rattle.grind_cli.specs.Answers.{AreClosed, WritesReport, WritesPart}
 
@@ -75,3 +77,25 @@ Ends ReportMalformed content read reads old new before now = ⊥
 -- every goal is closed, or some goal is open: the report was written
 abbrev pub IsAnswer : Status → Type 0
 IsAnswer status = (status ≡ AllClosed) ⊎ (status ≡ SomeOpen)
+
+-- what an ending says of the bytes: a refused file has that first fault
+abbrev pub ExplainsBytes : List ℕ → Ending → Type 0
+ExplainsBytes bytes (endings.Refused refusal) = IsRefusedFor bytes refusal
+ExplainsBytes bytes endings.AllClosed = Unit {0}
+ExplainsBytes bytes endings.SomeOpen = Unit {0}
+ExplainsBytes bytes endings.WordsRefused = Unit {0}
+ExplainsBytes bytes endings.ReadFault = Unit {0}
+ExplainsBytes bytes endings.WriteFault = Unit {0}
+ExplainsBytes bytes endings.Memory = Unit {0}
+ExplainsBytes bytes endings.TooLong = Unit {0}
+
+-- what an ending says of a file of this content: it says so of the bytes that were read
+abbrev pub Explains : Option (List ℕ) → Ending → Type 0
+Explains content (endings.Refused refusal) = (bytes : List ℕ) × Stands content bytes × IsRefusedFor bytes refusal
+Explains content endings.AllClosed = Unit {0}
+Explains content endings.SomeOpen = Unit {0}
+Explains content endings.WordsRefused = Unit {0}
+Explains content endings.ReadFault = Unit {0}
+Explains content endings.WriteFault = Unit {0}
+Explains content endings.Memory = Unit {0}
+Explains content endings.TooLong = Unit {0}

@@ -1,6 +1,7 @@
 //! The command line of Grind: `run` goes from the words and the file to a report that is proved right.
 #![tactic(auto)]
 
+pub mod ending;
 pub mod notes;
 pub mod reader;
 pub mod run;

@@ -1,36 +1,125 @@
 //! The line that a run leaves on the notes.
-ghost use Rattle.std.specs.Prelude.{◌≡◌, ◌++◌};
+ghost use Rattle.std.specs.Prelude.{◌≡◌, ◌++◌, decimal};
 ghost use Rattle.grind_outside.specs.Outside.{appended, IsFront};
-ghost use Rattle.grind_cli.specs.Statuses.{note_of};
+ghost use Rattle.grind_cli.specs.Statuses.{note_of, refusal_words, lead_of, place_of, trail_of, fault_words};
 ghost use Rattle.grind_cli.specs.Notes.{Notes};
 
-use crate::status::Status;
+use crate::ending::Ending;
+use crate::reader::Refusal;
 use grind_outside::{Sink, SinkRefusal, write_whole};
+use grind_theory::theory::Fault;
+use itoa::Buffer;
 
-/// Writes the line of a status, for a file of that name. A refusal of the notes leaves some first
+/// Writes the line of an ending, for a file of that name. A refusal of the notes leaves some first
 /// bytes of the line there, and changes nothing else.
-pub fn tell<E: Sink>(notes: &mut E, status: Status, name: &[u8])
-    ensures { Notes E.written E.refuses notes.old notes.new (note_of status name.now) }
+pub fn tell<E: Sink>(notes: &mut E, ending: Ending, name: &[u8])
+    ensures { Notes E.written E.refuses notes.old notes.new (note_of ending name.now) }
 {
-    let _ = write_note(notes, status, name);
+    let _ = write_note(notes, ending, name);
 }
 
-fn write_note<E: Sink>(notes: &mut E, status: Status, name: &[u8]) -> Result<(), SinkRefusal>
-    ensures { Notes E.written E.refuses notes.old notes.new (note_of status name.now) }
+fn write_note<E: Sink>(notes: &mut E, ending: Ending, name: &[u8]) -> Result<(), SinkRefusal>
+    ensures { Notes E.written E.refuses notes.old notes.new (note_of ending name.now) }
 {
-    match status {
-        Status::AllClosed | Status::SomeOpen => Ok(()),
-        Status::WordsRefused => write_last(notes, b"grind: usage: solve FILE\n"),
-        Status::WriteFault => write_last(notes, b"grind: cannot write\n"),
-        Status::Memory => write_last(notes, b"grind: out of memory\n"),
-        Status::ReadFault => write_around(notes, b"grind: cannot read ", name, b"\n"),
-        Status::TheoryRefused => {
-            write_around(notes, b"grind: ", name, b": not a first path theory\n")
-        }
-        Status::ReportMalformed => write_around(notes, b"grind: ", name, b": malformed\n"),
-        Status::TooLong => {
+    match ending {
+        Ending::AllClosed | Ending::SomeOpen => Ok(()),
+        Ending::WordsRefused => write_last(notes, b"grind: usage: solve FILE\n"),
+        Ending::WriteFault => write_last(notes, b"grind: cannot write\n"),
+        Ending::Memory => write_last(notes, b"grind: out of memory\n"),
+        Ending::ReadFault => write_around(notes, b"grind: cannot read ", name, b"\n"),
+        Ending::Refused(refusal) => write_refusal(notes, name, refusal),
+        Ending::TooLong => {
             write_around(notes, b"grind: ", name, b": longer than 4194304 bytes\n")
         }
+    }
+}
+
+// The line of a refused file.
+fn write_refusal<E: Sink>(
+    notes: &mut E,
+    name: &[u8],
+    refusal: Refusal,
+) -> Result<(), SinkRefusal>
+    ensures { Notes E.written E.refuses notes.old notes.new (note_of (Ending.Refused refusal) name.now) }
+{
+    if let Err(refused) = write_whole(notes, b"grind: ") {
+        return Err(refused);
+    }
+    write_named(notes, name, refusal)
+}
+
+// The name, and what is said of the file.
+fn write_named<E: Sink>(notes: &mut E, name: &[u8], refusal: Refusal) -> Result<(), SinkRefusal>
+    ensures { Notes E.written E.refuses notes.old notes.new (name.now ++ refusal_words refusal) }
+{
+    if let Err(refused) = write_whole(notes, name) {
+        return Err(refused);
+    }
+    write_words(notes, refusal)
+}
+
+// What is said of a refused file.
+fn write_words<E: Sink>(notes: &mut E, refusal: Refusal) -> Result<(), SinkRefusal>
+    ensures { Notes E.written E.refuses notes.old notes.new (refusal_words refusal) }
+{
+    let mut buffer = Buffer::new();
+    let digits = buffer.format(place(refusal)).as_bytes();
+    write_around(notes, lead(refusal), digits, trail(refusal))
+}
+
+// What stands before the number.
+fn lead(refusal: Refusal) -> &'static [u8]
+    ensures { result.now ≡ lead_of refusal }
+{
+    match refusal {
+        Refusal::BadByte { .. } => b": bad byte at offset ",
+        Refusal::NumberTooLarge { .. } => b": number too large at offset ",
+        Refusal::NameTooLong { .. } => b": name too long at offset ",
+        Refusal::Syntax { .. } | Refusal::TooDeep { .. } | Refusal::Bad { .. } => {
+            b": declaration "
+        }
+    }
+}
+
+// The number of the byte or of the declaration.
+fn place(refusal: Refusal) -> u32
+    ensures { result ≡ place_of refusal }
+{
+    match refusal {
+        Refusal::BadByte { offset } => offset,
+        Refusal::NumberTooLarge { offset } => offset,
+        Refusal::NameTooLong { offset } => offset,
+        Refusal::Syntax { decl } => decl,
+        Refusal::TooDeep { decl } => decl,
+        Refusal::Bad { decl, .. } => decl,
+    }
+}
+
+// What stands behind the number.
+fn trail(refusal: Refusal) -> &'static [u8]
+    ensures { result.now ≡ trail_of refusal }
+{
+    match refusal {
+        Refusal::BadByte { .. } => b"\n",
+        Refusal::NumberTooLarge { .. } => b"\n",
+        Refusal::NameTooLong { .. } => b"\n",
+        Refusal::Syntax { .. } => b": syntax\n",
+        Refusal::TooDeep { .. } => b": nested too deep\n",
+        Refusal::Bad { fault, .. } => words_of(fault),
+    }
+}
+
+// What is said of a fault.
+fn words_of(fault: Fault) -> &'static [u8]
+    ensures { result.now ≡ fault_words fault }
+{
+    match fault {
+        Fault::Duplicate => b": duplicate name\n",
+        Fault::Unknown => b": unknown name\n",
+        Fault::Arity => b": wrong number of arguments\n",
+        Fault::Sort => b": wrong sort\n",
+        Fault::Pattern => b": no pattern\n",
+        Fault::Size => b": too large\n",
     }
 }
 

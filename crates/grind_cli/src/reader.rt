@@ -1,24 +1,60 @@
-//! From the bytes of a theory file to the theory.
-ghost use Rattle.std.specs.Prelude.{◌≡◌, ◌≤◌, Err, length, IfOk};
-ghost use Rattle.grind_theory.specs.Declaring.{AreDeclared};
-ghost use Rattle.grind_theory.specs.declared.theory.Theory.{Theory as ATheory};
-ghost use Rattle.grind_cli.specs.Reading.{AreTokens, AreDeclarations};
-ghost use Rattle.grind_cli.specs.TheoryFiles.{TheoryOf, HasNoTheory};
+//! From the bytes of a theory file to the theory, or to why it is none.
+ghost use Rattle.std.specs.Prelude.{◌≡◌, ◌≤◌, length, IfOk, IfErr};
+ghost use Rattle.grind_theory.specs.Theories.{AreDeclared};
+ghost use Rattle.grind_cli.specs.Reading.{AreTokens, AreDeclarations, IsRefusal, IsLexical, IsGrammatical, IsOfDeclarations};
+ghost use Rattle.grind_cli.specs.TheoryFiles.{TheoryOf, OneTheoryOf, RefusedHaveNone, OneRefusalOf};
 
+use grind_grammar::Decl;
+use grind_grammar::laws::one_parse;
 use grind_outside::List;
-use grind_syntax::parse::{SyntaxRefusal, one_parse, parse};
-use grind_syntax::syntax::Decl;
-use grind_theory::elaborate::elaborate;
-use grind_theory::term_reader::TheoryRefusal;
-use grind_theory::theory::Theory;
+use grind_syntax::parse::{SyntaxRefusal, parse};
+use grind_theory::elaborate::{elaborate, one_elaboration};
+use grind_theory::theory::{Fault, Theory, TheoryRefusal};
 use grind_tokens::tokens::{LexRefusal, Token, one_reading, tokens};
 use std::alloc::Global;
 
-/// Why the bytes give no theory.
+/// Why the bytes are no theory. Offsets are counted from 0, declarations from 1.
+#[derive(Clone, Copy, Debug, PartialEq, Eq)]
+pub enum Refusal {
+    /// No token, white space or comment begins here, or the bytes are no text.
+    BadByte {
+        /// The offset of the byte.
+        offset: u32,
+    },
+    /// A number is larger than 2^127 - 1.
+    NumberTooLarge {
+        /// The offset of its first digit.
+        offset: u32,
+    },
+    /// A name is longer than 255 bytes.
+    NameTooLong {
+        /// The offset of its first byte.
+        offset: u32,
+    },
+    /// A declaration is outside the grammar.
+    Syntax {
+        /// Its number.
+        decl: u32,
+    },
+    /// A declaration is nested too deep.
+    TooDeep {
+        /// Its number.
+        decl: u32,
+    },
+    /// A declaration has a fault.
+    Bad {
+        /// Its number.
+        decl: u32,
+        /// The first fault that it has.
+        fault: Fault,
+    },
+}
+
+/// Why no theory was read.
 #[derive(Clone, Copy, Debug, PartialEq, Eq)]
 pub enum ReaderRefusal {
-    /// They are none.
-    Refused,
+    /// The bytes are none.
+    Refused(Refusal),
     /// Memory was wanted, and there was none.
     Memory,
 }
@@ -27,16 +63,16 @@ pub enum ReaderRefusal {
 ///
 /// # Errors
 ///
-/// `Refused` only where the bytes are no theory; want of memory.
+/// Why they are none, the first fault of tokens, grammar and declarations in this order; want of memory.
 pub fn theory_of(alloc: Global, bytes: &[u8]) -> Result<Theory, ReaderRefusal>
     requires { length bytes.now ≤ 4194304 }
     ensures ok { IfOk result (TheoryOf bytes.now) }
     ensures declared { IfOk result (λ theory. AreDeclared theory.signature theory.goals) }
-    ensures refused { result ≡ Err ReaderRefusal.Refused → HasNoTheory bytes.now }
+    ensures refused { IfErr result (IsRefusal bytes.now) }
 {
     let lexed = match tokens(alloc, bytes) {
         Ok(lexed) => lexed,
-        Err(refusal) => return Err(lex_refusal(refusal)),
+        Err(refusal) => return Err(lexical(refusal)),
     };
     theory_of_tokens(alloc, bytes, &lexed)
 }
@@ -50,12 +86,11 @@ fn theory_of_tokens(
     requires { AreTokens bytes.now lexed.now }
     ensures ok { IfOk result (TheoryOf bytes.now) }
     ensures declared { IfOk result (λ theory. AreDeclared theory.signature theory.goals) }
-    ensures refused { result ≡ Err ReaderRefusal.Refused → HasNoTheory bytes.now }
+    ensures refused { IfErr result (IsRefusal bytes.now) }
 {
-    one_reading();
     let decls = match parse(alloc, bytes, lexed) {
         Ok(decls) => decls,
-        Err(refusal) => return Err(syntax_refusal(refusal)),
+        Err(refusal) => return Err(grammatical(refusal)),
     };
     theory_of_decls(alloc, bytes, lexed, &decls)
 }
@@ -71,39 +106,58 @@ fn theory_of_decls(
     requires decls { AreDeclarations bytes.now lexed.now decls.now }
     ensures ok { IfOk result (TheoryOf bytes.now) }
     ensures declared { IfOk result (λ theory. AreDeclared theory.signature theory.goals) }
-    ensures refused { result ≡ Err ReaderRefusal.Refused → HasNoTheory bytes.now }
+    ensures refused { IfErr result (IsRefusal bytes.now) }
 {
-    one_reading();
-    one_parse();
     match elaborate(alloc, bytes, decls) {
         Ok(theory) => Ok(theory),
-        Err(refusal) => Err(theory_refusal(refusal)),
+        Err(refusal) => Err(of_declarations(refusal)),
     }
 }
 
-fn lex_refusal(refusal: LexRefusal) -> ReaderRefusal
-    ensures { result ≡ ReaderRefusal.Refused → refusal ≡ LexRefusal.Refused }
+fn lexical(refusal: LexRefusal) -> ReaderRefusal
+    ensures { IsLexical refusal result }
 {
     match refusal {
-        LexRefusal::Refused => ReaderRefusal::Refused,
+        LexRefusal::BadByte { offset } => ReaderRefusal::Refused(Refusal::BadByte { offset }),
+        LexRefusal::NumberTooLarge { offset } => {
+            ReaderRefusal::Refused(Refusal::NumberTooLarge { offset })
+        }
+        LexRefusal::NameTooLong { offset } => {
+            ReaderRefusal::Refused(Refusal::NameTooLong { offset })
+        }
         LexRefusal::Memory => ReaderRefusal::Memory,
     }
 }
 
-fn syntax_refusal(refusal: SyntaxRefusal) -> ReaderRefusal
-    ensures { result ≡ ReaderRefusal.Refused → refusal ≡ SyntaxRefusal.Refused }
+fn grammatical(refusal: SyntaxRefusal) -> ReaderRefusal
+    ensures { IsGrammatical refusal result }
 {
     match refusal {
-        SyntaxRefusal::Refused => ReaderRefusal::Refused,
+        SyntaxRefusal::Syntax { decl } => ReaderRefusal::Refused(Refusal::Syntax { decl }),
+        SyntaxRefusal::TooDeep { decl } => ReaderRefusal::Refused(Refusal::TooDeep { decl }),
         SyntaxRefusal::Memory => ReaderRefusal::Memory,
     }
 }
 
-fn theory_refusal(refusal: TheoryRefusal) -> ReaderRefusal
-    ensures { result ≡ ReaderRefusal.Refused → refusal ≡ TheoryRefusal.Refused }
+fn of_declarations(refusal: TheoryRefusal) -> ReaderRefusal
+    ensures { IsOfDeclarations refusal result }
 {
     match refusal {
-        TheoryRefusal::Refused => ReaderRefusal::Refused,
+        TheoryRefusal::Bad { decl, fault } => {
+            ReaderRefusal::Refused(Refusal::Bad { decl, fault })
+        }
         TheoryRefusal::Memory => ReaderRefusal::Memory,
     }
+}
+
+/// At most one theory stands for given bytes; bytes that are refused are no theory; and they are refused for one thing
+/// at most.
+pub fn one_theory_of()
+    ensures theory { OneTheoryOf }
+    ensures none { RefusedHaveNone }
+    ensures refusal { OneRefusalOf }
+{
+    one_reading();
+    one_parse();
+    one_elaboration();
 }

@@ -3,15 +3,16 @@ ghost use Rattle.std.specs.Prelude.{◌≡◌, ◌≢◌, ◌⊎◌, ◌↔◌, 
 ghost use Rattle.std.specs.String.{string_bytes};
 ghost use Rattle.grind_outside.specs.Outside.{CountsFault};
 ghost use Rattle.grind_cli.specs.Commands.{IsSolve};
-ghost use Rattle.grind_theory.specs.Declaring.{AreDeclared};
-ghost use Rattle.grind_cli.specs.Endings.{Ends, EndsOn, EndsOnTheory, IsAnswer, max_theory_bytes};
+ghost use Rattle.grind_theory.specs.Theories.{AreDeclared};
+ghost use Rattle.grind_cli.specs.Endings.{Ends, EndsOn, EndsOnTheory, Explains, ExplainsBytes, IsAnswer, max_theory_bytes};
 ghost use Rattle.grind_cli.specs.Notes.{Notes};
-ghost use Rattle.grind_cli.specs.Statuses.{note_of};
+ghost use Rattle.grind_cli.specs.Statuses.{note_of, status_of as ending_status};
 ghost use Rattle.grind_cli.specs.TheoryFiles.{TheoryOf};
 ghost use Rattle.grind_theory.specs.declared.theory.Theory.{Theory as ATheory};
 
+use crate::ending::{Ending, status_of};
 use crate::notes::tell;
-use crate::reader::{ReaderRefusal, theory_of};
+use crate::reader::{ReaderRefusal, one_theory_of, theory_of};
 use crate::status::Status;
 use crate::words::file_of;
 use crate::writing::write_report;
@@ -59,61 +60,66 @@ pub fn run<R: Threads + Sync, H: Shelf, K: Sink, E: Sink>(
     ensures shelf_quiet { result ≢ Status.ReadFault → H.faults shelf.new ≡ H.faults shelf.old }
     ensures out_quiet { result ≢ Status.WriteFault → K.faults out.new ≡ K.faults out.old }
 
-    // What stands on the notes.
+    // What stands on the notes: the line of an ending of this status, and of a refused file the first fault of its bytes.
     ensures notes { (name : List ℕ) → IsSolve (map string_bytes words.now) name →
-        Notes E.written E.refuses notes.old notes.new (note_of result name) }
+        (ending : Ending) × (ending_status ending ≡ result) × Explains (H.content shelf.old name) ending
+        × Notes E.written E.refuses notes.old notes.new (note_of ending name) }
     ensures usage { result ≡ Status.WordsRefused →
-        Notes E.written E.refuses notes.old notes.new (note_of Status.WordsRefused []) }
+        Notes E.written E.refuses notes.old notes.new (note_of Ending.WordsRefused []) }
 {
     let Some(name) = file_of(words) else {
-        tell(notes, Status::WordsRefused, b"");
+        tell(notes, Ending::WordsRefused, b"");
         return Status::WordsRefused;
     };
-    let status = solve(alloc, name, shelf, out);
-    tell(notes, status, name.as_bytes());
-    status
+    let ending = solve(alloc, name, shelf, out);
+    tell(notes, ending, name.as_bytes());
+    status_of(ending)
 }
 
 /// Reads the theory file of that name, and solves it.
-fn solve<H: Shelf, K: Sink>(alloc: Global, name: &str, shelf: &mut H, out: &mut K) -> Status
-    ensures ends { Ends result (H.content shelf.old name.now) (H.faults shelf.old) (H.faults shelf.new)
+fn solve<H: Shelf, K: Sink>(alloc: Global, name: &str, shelf: &mut H, out: &mut K) -> Ending
+    ensures ends { Ends (ending_status result) (H.content shelf.old name.now) (H.faults shelf.old) (H.faults shelf.new)
         (K.written out.old) (K.written out.new) (K.faults out.old) (K.faults out.new) }
-    ensures shelf_quiet { result ≢ Status.ReadFault → H.faults shelf.new ≡ H.faults shelf.old }
-    ensures out_quiet { result ≢ Status.WriteFault → K.faults out.new ≡ K.faults out.old }
+    ensures why { Explains (H.content shelf.old name.now) result }
+    ensures shelf_quiet { ending_status result ≢ Status.ReadFault → H.faults shelf.new ≡ H.faults shelf.old }
+    ensures out_quiet { ending_status result ≢ Status.WriteFault → K.faults out.new ≡ K.faults out.old }
 {
     match shelf.read(alloc, name, MAX_THEORY_BYTES) {
         Ok(bytes) => solve_bytes(alloc, bytes.as_slice(), out),
-        Err(ReadRefusal::Failed) => Status::ReadFault,
-        Err(ReadRefusal::TooLong { .. }) => Status::TooLong,
-        Err(ReadRefusal::Memory) => Status::Memory,
+        Err(ReadRefusal::Failed) => Ending::ReadFault,
+        Err(ReadRefusal::TooLong { .. }) => Ending::TooLong,
+        Err(ReadRefusal::Memory) => Ending::Memory,
     }
 }
 
 /// Solves the theory that the bytes are.
-fn solve_bytes<K: Sink>(alloc: Global, bytes: &[u8], out: &mut K) -> Status
+fn solve_bytes<K: Sink>(alloc: Global, bytes: &[u8], out: &mut K) -> Ending
     requires { length bytes.now ≤ max_theory_bytes }
-    ensures ends { EndsOn result bytes.now (K.written out.old) (K.written out.new) (K.faults out.old) (K.faults out.new) }
-    ensures out_quiet { result ≢ Status.WriteFault → K.faults out.new ≡ K.faults out.old }
+    ensures ends { EndsOn (ending_status result) bytes.now (K.written out.old) (K.written out.new) (K.faults out.old) (K.faults out.new) }
+    ensures why { ExplainsBytes bytes.now result }
+    ensures out_quiet { ending_status result ≢ Status.WriteFault → K.faults out.new ≡ K.faults out.old }
 {
+    one_theory_of();
     let theory = match theory_of(alloc, bytes) {
         Ok(theory) => theory,
-        Err(ReaderRefusal::Refused) => return Status::TheoryRefused,
-        Err(ReaderRefusal::Memory) => return Status::Memory,
+        Err(ReaderRefusal::Refused(refusal)) => return Ending::Refused(refusal),
+        Err(ReaderRefusal::Memory) => return Ending::Memory,
     };
     solve_theory(alloc, &theory, out)
 }
 
 /// Solves the goals of the theory, and writes their report.
-fn solve_theory<K: Sink>(alloc: Global, theory: &Theory, out: &mut K) -> Status
+fn solve_theory<K: Sink>(alloc: Global, theory: &Theory, out: &mut K) -> Ending
     requires { AreDeclared theory.now.signature theory.now.goals }
-    ensures ends { EndsOnTheory result theory.now (K.written out.old) (K.written out.new) (K.faults out.old) (K.faults out.new) }
-    ensures out_quiet { result ≢ Status.WriteFault → K.faults out.new ≡ K.faults out.old }
+    ensures ends { EndsOnTheory (ending_status result) theory.now (K.written out.old) (K.written out.new) (K.faults out.old) (K.faults out.new) }
+    ensures why { (bytes : List ℕ) → ExplainsBytes bytes result }
+    ensures out_quiet { ending_status result ≢ Status.WriteFault → K.faults out.new ≡ K.faults out.old }
 {
     let goals = theory.goals.as_slice();
     match write_report(alloc, &theory.signature, &theory.lemmas, goals, out) {
-        Ok(true) => Status::AllClosed,
-        Ok(false) => Status::SomeOpen,
-        Err(SinkRefusal::Failed) => Status::WriteFault,
-        Err(SinkRefusal::Memory) => Status::Memory,
+        Ok(true) => Ending::AllClosed,
+        Ok(false) => Ending::SomeOpen,
+        Err(SinkRefusal::Failed) => Ending::WriteFault,
+        Err(SinkRefusal::Memory) => Ending::Memory,
     }
 }

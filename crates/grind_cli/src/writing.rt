@@ -5,7 +5,7 @@ ghost use Rattle.grind_outside.specs.Outside.{CountsFault, OnPutFailed, UnlessPu
 ghost use Rattle.grind_signature.specs.Signatures.{IsDeclared};
 ghost use Rattle.grind_report.specs.Report.{Block, BlockFits, Report, header_bytes, block_bytes, end_bytes};
 ghost use Rattle.grind_cli.specs.Answers.{AnswersGoal, IsClosed, AreClosed, WritesReport, WritesPart};
-ghost use Rattle.grind_theory.specs.Declaring.{AreDeclared};
+ghost use Rattle.grind_theory.specs.Theories.{AreDeclared};
 ghost use Rattle.grind_cli.specs.Written.{WritesFront, WritesBlock, BeginsBlock, SpellsBlock, IsClosedOutcome, WritesBlocks, WritesSomeBlocks};
 
 use crate::solve::solve_goal;

@@ -1,2 +1,6 @@
 //! The pattern terms of a theorem.
 #![tactic(auto)]
+
+pub mod kind;
+
+pub use kind::Kind;

@@ -1,5 +1,0 @@
-pub mod Fronts
-pub mod Items
-pub mod ListLemmas
-pub mod OperatorLemmas
-pub mod TreeLemmas

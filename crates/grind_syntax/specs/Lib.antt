@@ -1,4 +1,1 @@
-pub mod Places
-pub mod Depth
-pub mod Levels
-pub mod Built
+pub mod Parsed

@@ -1,10 +1,6 @@
-//! The reader of a theory file: from its tokens to its declarations.
+//! Stub.
 #![tactic(auto)]
 
-mod built;
-mod levels;
-mod lists;
-mod names;
-mod parts;
-mod sides;
-mod trees;
+pub mod parse;
+
+

@@ -2,3 +2,4 @@ pub mod Faults
 pub mod Laws
 pub mod States
 pub mod Theories
+pub mod Stub

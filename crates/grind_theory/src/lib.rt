@@ -2,5 +2,6 @@
 //! search, and the terms of each goal; or the first declaration that is bad, and what is wrong with it.
 #![tactic(auto)]
 
+pub mod elaborate;
 pub mod limits;
 pub mod theory;

@@ -1,19 +1,25 @@
-use Rattle.std.proofs.Common.{ap, ◌∙◌}
+use Rattle.std.proofs.Common.{◌≡◌, ◌⊎◌, ap, ◌∙◌, subst, sym}
+use Rattle.grind_cli.specs.declared.status.Status.{Status}
+use Rattle.grind_cli.specs.declared.status.Status.TheVariants.{TheoryRefused, Memory}
+use Rattle.grind_cli.specs.Endings.{IsAnswer}
 use Rattle.grind_cli.proofs.EndingLemmas.{one_name, ends_complete, ends_refused}
+use Rattle.grind_cli.specs.Statuses.{status_of}
 use Rattle.grind_cli.proofs.run.run.Goals as goal
 
 pub returns-clause-complete : goal.returns-clause-complete
 returns-clause-complete g c = λ name bytes theory is held short of read_calm write_calm.
     let same = one_name _ c.in-Some.name.now name c.in-Some.ensures.some is in
-    ends_complete (g.H.Shelf.faults c.args.shelf.now) (g.H.Shelf.faults c.solve-status.new.shelf) (g.K.Sink.written c.args.out.now)
-    (g.K.Sink.written c.solve-status.new.out) (g.K.Sink.faults c.args.out.now) (g.K.Sink.faults c.solve-status.new.out)
+    subst (λ (st : Status). IsAnswer st ⊎ (st ≡ Memory)) (sym c.status_of.ensures)
+    (ends_complete (g.H.Shelf.faults c.args.shelf.now) (g.H.Shelf.faults c.solve-ending.new.shelf) (g.K.Sink.written c.args.out.now)
+    (g.K.Sink.written c.solve-ending.new.out) (g.K.Sink.faults c.args.out.now) (g.K.Sink.faults c.solve-ending.new.out)
     (g.H.Shelf.content c.args.shelf.now c.in-Some.name.now) bytes (ap (g.H.Shelf.content c.args.shelf.now) same ∙ held) read_calm
-    c.solve-status.result theory short of write_calm c.solve-status.ensures.ends
+    (status_of c.solve-ending.result) theory short of write_calm c.solve-ending.ensures.ends)
 
 pub returns-clause-no_theory : goal.returns-clause-no_theory
 returns-clause-no_theory g c = λ name bytes is held short none read_calm.
     let same = one_name _ c.in-Some.name.now name c.in-Some.ensures.some is in
-    ends_refused (g.H.Shelf.faults c.args.shelf.now) (g.H.Shelf.faults c.solve-status.new.shelf) (g.K.Sink.written c.args.out.now)
-    (g.K.Sink.written c.solve-status.new.out) (g.K.Sink.faults c.args.out.now) (g.K.Sink.faults c.solve-status.new.out)
+    subst (λ (st : Status). (st ≡ TheoryRefused) ⊎ (st ≡ Memory)) (sym c.status_of.ensures)
+    (ends_refused (g.H.Shelf.faults c.args.shelf.now) (g.H.Shelf.faults c.solve-ending.new.shelf) (g.K.Sink.written c.args.out.now)
+    (g.K.Sink.written c.solve-ending.new.out) (g.K.Sink.faults c.args.out.now) (g.K.Sink.faults c.solve-ending.new.out)
     (g.H.Shelf.content c.args.shelf.now c.in-Some.name.now) bytes (ap (g.H.Shelf.content c.args.shelf.now) same ∙ held) read_calm
-    c.solve-status.result short none c.solve-status.ensures.ends
+    (status_of c.solve-ending.result) short none c.solve-ending.ensures.ends)

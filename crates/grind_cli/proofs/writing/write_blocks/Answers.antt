@@ -1,6 +1,6 @@
 use Rattle.std.proofs.Common.{◌≡◌, ◌&&◌, Bool, List, [], ◌∷◌, length, refl, subst, ◌∙◌, arith}
 use Rattle.grind_schemes.specs.Goals.{GoalData}
-use Rattle.grind_theory.specs.Declaring.{AreDeclared}
+use Rattle.grind_theory.specs.Theories.{AreDeclared}
 use Rattle.grind_cli.proofs.WrittenLemmas.{IsOnTheWay, on_the_way-step, on_the_way-end, on_the_way-stop}
 use Rattle.grind_cli.proofs.writing.write_blocks.Goals as goal
 

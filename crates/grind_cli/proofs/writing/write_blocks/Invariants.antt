@@ -1,5 +1,5 @@
 use Rattle.std.proofs.Common.{◌≡◌, length}
-use Rattle.grind_theory.specs.Declaring.{AreDeclared}
+use Rattle.grind_theory.specs.Theories.{AreDeclared}
 use Rattle.grind_cli.proofs.WrittenLemmas.{IsOnTheWay}
 use Rattle.grind_cli.proofs.writing.write_blocks.Given as goal
 
