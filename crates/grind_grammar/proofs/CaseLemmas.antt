@@ -8,8 +8,8 @@ use Rattle.grind_grammar.specs.Lexemes.{Lexeme, Word, Number, Symbol}
 use Rattle.grind_grammar.specs.Grammar.{Formula}
 use Rattle.grind_grammar.specs.Parentheses.{Within}
 use Rattle.grind_grammar.specs.Files.{Syntax, IsPiece, DeclarationsOf, nothing, declared, here, later, at_end, unended}
-use Rattle.grind_grammar.specs.GrammarCases.{word_a, IsTheFormula, EquationsFirst, NoDoubleEquation, ImplicationsGoRight, DifferencesGoLeft, AndThenOr, TwoSigns, NegationOfEquation, OneLimit, IntIsNoName, DotIsMissing}
-use Rattle.grind_grammar.specs.Reading.{read, read_map, read_then, is_symbol, symbol_at, closed, is_name, name_at, items, list_at, fit, one, two, op_at, joined_behind, once, right_chain, left_behind, left_chain, left_joined, signed, parts_behind, word_atom, atom, minus, product, sum, relation, negation, conj, disj, impl, formula_over, formula, within, limit_of, declaration_of, declaration, whole, judged}
+use Rattle.grind_grammar.specs.GrammarCases.{word_a, TheoremWithPatterns, GoalWithHypotheses, SignsFit, SignsAreTooMany, ParenthesesFit, ParenthesesAreTooMany, IsTheFormula, EquationsFirst, NoDoubleEquation, ImplicationsGoRight, DifferencesGoLeft, AndThenOr, TwoSigns, NegationOfEquation, OneLimit, IntIsNoName, DotIsMissing}
+use Rattle.grind_grammar.specs.Reading.{read, read_map, read_then, is_symbol, symbol_at, closed, is_name, name_at, items, items_behind, list_at, fit, one, two, op_at, joined_behind, once, right_chain, left_behind, left_chain, left_joined, signed, parts_behind, word_atom, atom, minus, product, sum, relation, negation, conj, disj, impl, formula_over, formula, within, limit_of, declaration_of, declaration, whole, judged, goal_of, goal_with, hyps, hyps_from, names, group_behind, group, binders, in_parentheses, in_parentheses_from, all_of, with_all, row_from, applied, is_sort, sort_at, word_at, theorem_of, theorem_with, annot_after_eq, annot_of_symbol, annot_inside, annots_behind, annots_up_to, annots}
 use Rattle.grind_grammar.proofs.ReadLemmas.{nothing_read, some_is, read_is}
 use Rattle.grind_grammar.proofs.FitLemmas.{IsGiven, fit_given}
 use Rattle.grind_grammar.proofs.TermSound.{formula_sound}
@@ -24,7 +24,7 @@ no_dot_among (l ∷ ls) = if is_symbol symbols.Dot l then false else no_dot_amon
 
 -- all that a formula is read by
 computes : Unit {0}
-unfolding read_map read_then is_symbol symbol_at closed is_name items list_at fit one two op_at joined_behind once right_chain left_behind left_chain left_joined signed parts_behind word_atom atom minus product sum relation negation conj disj impl formula_over formula within name_at limit_of declaration_of declaration whole judged no_dot_among
+unfolding read_map read_then is_symbol symbol_at closed is_name items items_behind list_at fit one two op_at joined_behind once right_chain left_behind left_chain left_joined signed parts_behind word_atom atom minus product sum relation negation conj disj impl formula_over formula within name_at limit_of declaration_of declaration whole judged no_dot_among goal_of goal_with hyps hyps_from names group_behind group binders in_parentheses in_parentheses_from all_of with_all row_from applied is_sort sort_at word_at theorem_of theorem_with annot_after_eq annot_of_symbol annot_inside annots_behind annots_up_to annots
 computes = tt
 
 reads_formula : (ls : List Lexeme) (t : Term) → Within 9 0 ls → Formula ls t [] → formula 9 10 ls ≡ read (fit 9 t) []
@@ -112,3 +112,27 @@ int_is_no_name =
 pub dot_is_missing : DotIsMissing
 unfolding computes
 dot_is_missing = at_end (is_piece sort_a refl) (omega arith) (unended (within_is 200 0 sort_a refl))
+
+pub theorem_with_patterns : TheoremWithPatterns
+unfolding computes
+theorem_with_patterns = judged_ok _ _ refl
+
+pub goal_with_hypotheses : GoalWithHypotheses
+unfolding computes
+goal_with_hypotheses = judged_ok _ _ refl
+
+pub signs_fit : SignsFit
+unfolding computes
+signs_fit = judged_ok _ _ refl
+
+pub signs_are_too_many : SignsAreTooMany
+unfolding computes
+signs_are_too_many = judged_err _ _ refl
+
+pub parentheses_fit : ParenthesesFit
+unfolding computes
+parentheses_fit = judged_ok _ _ refl
+
+pub parentheses_are_too_many : ParenthesesAreTooMany
+unfolding computes
+parentheses_are_too_many = judged_err _ _ refl

@@ -219,34 +219,45 @@ module _ (limit room : ℕ) (word name : List ℕ) (n : IsName name) (ls : List 
       let a = subst (λ l. Arguments ls k.0 (Symbol symbols.Colon ∷ l)) s.0 (arguments_sound ls k.0 (Symbol symbols.Colon ∷ k.1) c) in
       (Fun name k.0 m.0, new_function w n a s.1, m.2)
 
+  theorem_from : word ≡ codes "theorem" → (bounds : List Bound) (mid : List Lexeme) (os : List (Option Annotation)) (after : List Lexeme) (x : Option Term) →
+      Binders ls bounds mid → Images (map (fit_annotation limit)) Annots mid os (Symbol symbols.Colon ∷ after) → Trees limit Formula after x rest →
+      o ≡ theorem_with name bounds (all_of os) x → DeclarationRead limit word name ls o rest
+  unfolding fit_declaration
+  theorem_from w bounds mid os after x bs a b e =
+      (Theorem name bounds a.0 b.0, new_theorem w n bs a.1 b.1, e ∙ with_equal (λ ys y. theorem_with name bounds (all_of ys) y) a.2 b.2)
+
   read_theorem : word ≡ codes "theorem" → theorem_of limit room name ls ≡ read o rest → DeclarationRead limit word name ls o rest
-  unfolding theorem_of fit_declaration
+  unfolding theorem_of
   read_theorem w h =
       let k = read_then_read _ (binders ls) o rest h in
       let item = sum limit (formula limit room) in
       let m = read_then_read _ (closed symbols.Colon (annots item k.1)) o rest k.3 in
       let c = closed_read symbols.Colon (annots item k.1) m.0 m.1 m.2 in
-      let a = annots_sound limit item (sum_sound limit (formula limit room) (formula_sound limit room)) k.1 m.0 (Symbol symbols.Colon ∷ m.1) c in
       let f = read_map_read (theorem_with name k.0 (all_of m.0)) (formula limit (suc room) m.1) o rest m.3 in
-      let b = formula_sound limit (suc room) m.1 f.0 rest f.1 in (
-        Theorem name k.0 a.0 b.0,
-        new_theorem w n (binders_sound ls k.0 k.1 k.2) a.1 b.1,
-        f.2 ∙ with_equal (λ os o. theorem_with name k.0 (all_of os) o) a.2 b.2,
-      )
+      theorem_from w k.0 k.1 m.0 m.1 f.0
+      (binders_sound ls k.0 k.1 k.2)
+      (annots_sound limit item (sum_sound limit (formula limit room) (formula_sound limit room)) k.1 m.0 (Symbol symbols.Colon ∷ m.1) c)
+      (formula_sound limit (suc room) m.1 f.0 rest f.1)
+      f.2
+
+  goal_from : word ≡ codes "goal" → (bounds : List Bound) (mid : List Lexeme) (os : List (Option Term)) (after : List Lexeme) (x : Option Term) →
+      Binders ls bounds (Symbol symbols.Colon ∷ mid) → Images (map (fit limit)) Hypotheses mid os (Symbol symbols.Turnstile ∷ after) → Trees limit Formula after x rest →
+      o ≡ goal_with name bounds (all_of os) x → DeclarationRead limit word name ls o rest
+  unfolding fit_declaration
+  goal_from w bounds mid os after x bs a b e =
+      (Goal name bounds a.0 b.0, new_goal w n bs a.1 b.1, e ∙ with_equal (λ ys y. goal_with name bounds (all_of ys) y) a.2 b.2)
 
   read_goal : word ≡ codes "goal" → goal_of limit room name ls ≡ read o rest → DeclarationRead limit word name ls o rest
-  unfolding goal_of fit_declaration
+  unfolding goal_of
   read_goal w h =
       let k = read_then_read _ (closed symbols.Colon (binders ls)) o rest h in
-      let c = closed_read symbols.Colon (binders ls) k.0 k.1 k.2 in
       let m = read_then_read _ (reading.hyps (formula limit (suc room)) k.1) o rest k.3 in
-      let a = hyps_sound limit (formula limit (suc room)) (formula_sound limit (suc room)) k.1 m.0 m.1 m.2 in
       let f = read_map_read (goal_with name k.0 (all_of m.0)) (formula limit (suc room) m.1) o rest m.3 in
-      let b = formula_sound limit (suc room) m.1 f.0 rest f.1 in (
-        Goal name k.0 a.0 b.0,
-        new_goal w n (binders_sound ls k.0 (Symbol symbols.Colon ∷ k.1) c) a.1 b.1,
-        f.2 ∙ with_equal (λ os o. goal_with name k.0 (all_of os) o) a.2 b.2,
-      )
+      goal_from w k.0 k.1 m.0 m.1 f.0
+      (binders_sound ls k.0 (Symbol symbols.Colon ∷ k.1) (closed_read symbols.Colon (binders ls) k.0 k.1 k.2))
+      (hyps_sound limit (formula limit (suc room)) (formula_sound limit (suc room)) k.1 m.0 m.1 m.2)
+      (formula_sound limit (suc room) m.1 f.0 rest f.1)
+      f.2
 
 read_limit : (limit : ℕ) (word name : List ℕ) (n : IsName name) (ls : List Lexeme) (o : Option Declaration) (rest : List Lexeme) →
     word ≡ codes "limit" → limit_of name ls ≡ read o rest → DeclarationRead limit word name ls o rest

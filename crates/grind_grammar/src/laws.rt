@@ -1,6 +1,6 @@
 //! What holds of the grammar. Each law is a call without a body: who makes the call knows the law.
 ghost use Rattle.grind_grammar.specs.Laws.{DeclarationsAreComplete, DeclarationsAreSound, EachJudged, FaultsAreJudged, FormulasAreComplete, FormulasAreSound, NoneRefused, OneParse, OneRefusal, PiecesAreJudged, PlacesByParts, SumsAreComplete, SumsAreSound, TermsByParts};
-ghost use Rattle.grind_grammar.specs.GrammarCases.{AndThenOr, DifferencesGoLeft, DotIsMissing, EquationsFirst, ImplicationsGoRight, IntIsNoName, NegationOfEquation, NoDoubleEquation, OneLimit, TwoSigns};
+ghost use Rattle.grind_grammar.specs.GrammarCases.{AndThenOr, DifferencesGoLeft, DotIsMissing, EquationsFirst, GoalWithHypotheses, ImplicationsGoRight, IntIsNoName, NegationOfEquation, NoDoubleEquation, OneLimit, ParenthesesAreTooMany, ParenthesesFit, SignsAreTooMany, SignsFit, TheoremWithPatterns, TwoSigns};
 
 /// Lexemes are one list of declarations at most; those that are declarations are not refused; and they are refused
 /// at one declaration at most, with one fault.
@@ -50,6 +50,12 @@ pub fn worked_cases()
     ensures levels { AndThenOr }
     ensures signs { TwoSigns }
     ensures negation { NegationOfEquation }
+    ensures patterns { TheoremWithPatterns }
+    ensures hypotheses { GoalWithHypotheses }
+    ensures depth { SignsFit }
+    ensures too_deep { SignsAreTooMany }
+    ensures parentheses { ParenthesesFit }
+    ensures too_many { ParenthesesAreTooMany }
     ensures limit { OneLimit }
     ensures reserved { IntIsNoName }
     ensures dot { DotIsMissing }
