@@ -1,8 +1,7 @@
-//! Runs of the whole program over files and sinks in memory, and the checker on whole proofs, compared
-//! with what they must answer.
+//! Runs of the whole program over files and sinks in memory, compared with what they must answer.
 #![tactic(auto)]
 
 #[cfg(test)]
-mod checker_tests;
+mod language_tests;
 #[cfg(test)]
 mod tests;

@@ -31,6 +31,57 @@ end 1
 
 const EMPTY_REPORT: &str = "grind report 1\nend 0\n";
 
+const OPEN_REPORT: &str = "grind report 1\ngoal t open unexplored\nend 1\n";
+
+const SELF_REPORT: &str = "grind report 1
+goal t closed
+terms 4
+0 true
+1 false
+2 const a
+3 eq 2 2
+branches 0
+lines 3
+0 0 hyp 1 : holds 3
+1 0 negated : fails 3
+2 0 clash 0 1 : absurd
+end 1
+";
+
+const EQUAL_REPORT: &str = "grind report 1
+goal t closed
+terms 5
+0 true
+1 false
+2 const a
+3 const b
+4 eq 2 3
+branches 0
+lines 3
+0 0 hyp 1 : holds 4
+1 0 negated : fails 4
+2 0 clash 0 1 : absurd
+end 1
+";
+
+const UNEQUAL_REPORT: &str = "grind report 1
+goal t closed
+terms 7
+0 true
+1 false
+2 const a
+3 const b
+4 eq 2 3
+5 eq 3 2
+6 not 5
+branches 0
+lines 3
+0 0 hyp 2 : holds 6
+1 0 negated : fails 6
+2 0 clash 0 1 : absurd
+end 1
+";
+
 /// What a run left.
 #[derive(Drop)]
 struct Left {
@@ -105,6 +156,33 @@ fn solves(
     Ok(())
 }
 
+/// Asserts that a run of `solve t.gr` on this text is refused for these words.
+pub fn refuses(
+    rt: &(impl Threads + Sync + Abort + AllocGlobal),
+    text: &[u8],
+    words: &str,
+) -> Result<(), Fail> {
+    let left = run_on(rt, &["solve", "t.gr"], text, &[], &[], 4096)?;
+    let note = format!(in rt.alloc(); "grind: t.gr: {words}\n")?;
+    assert!(rt; left.status == Status::TheoryRefused, "{words}");
+    assert!(rt; is_text(&left.out, ""), "{words}");
+    assert!(rt; is_text(&left.notes, note.as_str()), "{words}");
+    Ok(())
+}
+
+/// Asserts that a run of `solve t.gr` on this text ends with one of these statuses and no note.
+pub fn runs_as(
+    rt: &(impl Threads + Sync + Abort + AllocGlobal),
+    text: &[u8],
+    statuses: &[Status],
+) -> Result<(), Fail> {
+    let left = run_on(rt, &["solve", "t.gr"], text, &[], &[], 4096)?;
+    let among = statuses.iter().any(|status| *status == left.status);
+    assert!(rt; among);
+    assert!(rt; is_text(&left.notes, ""));
+    Ok(())
+}
+
 #[test]
 fn theories(rt: HostRuntime) -> Result<(), Fail> {
     solves(&rt, REFLEXIVE, Status::AllClosed, REFLEXIVE_REPORT, "")?;
@@ -115,14 +193,47 @@ fn theories(rt: HostRuntime) -> Result<(), Fail> {
         Status::AllClosed,
         EMPTY_REPORT,
         "",
+    )
+}
+
+#[test]
+fn goals_that_their_hypotheses_close(rt: HostRuntime) -> Result<(), Fail> {
+    solves(
+        &rt,
+        "sort S. goal t (a: S): a = a |- a = a.",
+        Status::AllClosed,
+        SELF_REPORT,
+        "",
     )?;
     solves(
         &rt,
-        "sort S. goal t (a b: S): |- a = b.",
-        Status::SomeOpen,
-        "grind report 1\ngoal t open unexplored\nend 1\n",
+        "sort S. goal t (a b: S): a = b |- a = b.",
+        Status::AllClosed,
+        EQUAL_REPORT,
+        "",
+    )?;
+    solves(
+        &rt,
+        "sort S. goal t (a b: S): a = b; b != a |- b != a.",
+        Status::AllClosed,
+        UNEQUAL_REPORT,
         "",
     )
+}
+
+#[test]
+fn goals_that_stay_open(rt: HostRuntime) -> Result<(), Fail> {
+    for text in [
+        "sort S. goal t (a b: S): |- a = b.",
+        "sort S. goal t (a b: S): |- a != b.",
+        "sort S. goal t (a b: S): a = b |- b = a.",
+        "sort S. goal t (a b: S): a = b |- a != b.",
+        "sort S. goal t (a b c: S): a != a |- b = c.",
+        "sort S. fun f(S): S. goal t (a: S): f(f(f(a))) = a ; f(f(f(f(f(a))))) = a |- f(a) = a.",
+    ] {
+        solves(&rt, text, Status::SomeOpen, OPEN_REPORT, "")?;
+    }
+    Ok(())
 }
 
 #[test]
@@ -142,69 +253,14 @@ fn blocks_stand_in_the_order_of_the_goals(rt: HostRuntime) -> Result<(), Fail> {
     solves(&rt, text, Status::SomeOpen, report, "")
 }
 
+/// A goal's own name is not held while its binders are read.
 #[test]
-fn files_that_are_no_theory(rt: HostRuntime) -> Result<(), Fail> {
-    for text in [
-        // bytes and tokens
-        "sort S. @",
-        "sort S; ",
-        "sort S. -",
-        "sort S\u{e9}.",
-        "-- \u{e9}",
-        "1",
-        // grammar
-        "sort S",
-        "sort goal.",
-        "sort _.",
-        "sort S. fun f(S): S. goal g (a: S): |- f(a) = f(",
-        "sort S. fun a: S. goal t: a = a = a |- a = a.",
-        "sort S. goal t (a: S): |- a = a = a.",
-        "sort S. goal t (a: S): |- a.",
-        "sort S. goal t (): |- a = a.",
-        "sort S. goal t (a: S): a = a |- a = a.",
-        "sort S. fun f(): S.",
-        // names, numbers of arguments and sorts
-        "sort S. sort S.",
-        "sort S. goal S (a: S): |- a = a.",
-        "sort S. fun f: S. goal t (f: S): |- f = f.",
-        "sort S. goal t (a: S, a: S): |- a = a.",
-        "fun f(T): T.",
-        "sort S. goal t: |- a = a.",
-        "sort S. fun f(S): S. goal t (a: S): |- f(a, a) = a.",
-        "sort S. fun f(S): S. goal t: |- f = f.",
-        "sort S. goal t (a: S): |- a(a) = a.",
-        "sort S. sort T. fun f(S): S. goal t (a: T): |- f(a) = f(a).",
-        "sort S. sort T. goal t (a: S, b: T): |- a = b.",
-        "sort S. goal t (a: Int): |- a = a.",
-        "sort S. goal t (a: S): |- t = t.",
-        "sort S. fun f(S, S, S, S, S, S, S, S, S, S, S, S, S, S, S, S, S): S.",
-    ] {
-        solves(
-            &rt,
-            text,
-            Status::TheoryRefused,
-            "",
-            "grind: t.gr: not a first path theory\n",
-        )?;
-    }
-    Ok(())
-}
-
-#[test]
-fn files_at_the_edges_of_the_language(rt: HostRuntime) -> Result<(), Fail> {
-    for text in [
-        "\t\r\nsort\tS\r\n.--a comment, with no line feed behind it",
-        "sort S.fun f(S,S):S.fun _c:S.--x\n",
-        "sort S. fun f(S, S, S, S, S, S, S, S, S, S, S, S, S, S, S, S): S.",
-        // A goal's own name is not held while its binders are read.
-        "sort S. fun f(S): S. sort fun_. sort sort1.",
-    ] {
-        solves(&rt, text, Status::AllClosed, EMPTY_REPORT, "")?;
-    }
-    let own = "sort S. goal t (t: S): |- t = t.";
-    let left = run_on(&rt, &["solve", "t.gr"], own.as_bytes(), &[], &[], 1)?;
-    assert!(rt; left.status == Status::AllClosed);
-    Ok(())
+fn a_constant_of_the_name_of_its_goal(rt: HostRuntime) -> Result<(), Fail> {
+    runs_as(
+        &rt,
+        b"sort S. goal t (t: S): |- t = t.",
+        &[Status::AllClosed],
+    )
 }
 
 #[test]
