@@ -1,0 +1,4 @@
+pub mod CopyLemmas
+pub mod Along
+pub mod WalkLemmas
+pub mod BodyLemmas

@@ -1,18 +1,18 @@
-//! How the patterns of a theorem are found.
+//! The kinds of annotation.
 use grind_outside::List;
 use grind_schemes::Scheme;
 
-/// How the patterns of a theorem are found.
+/// How an annotation chooses the pattern terms of a theorem.
 #[derive(Drop)]
 pub enum Kind {
-    /// The left side of the equation that is concluded.
+    /// The left side of a conclusion that is an equation.
     Left,
-    /// The right side of that equation.
+    /// The right side of a conclusion that is an equation.
     Right,
-    /// The terms of the hypotheses.
+    /// A walk over the hypotheses.
     Hyps,
-    /// The terms of the conclusion.
+    /// A walk over the conclusion.
     Concl,
-    /// These terms.
+    /// The terms that are written out.
     Written(List<Scheme>),
 }

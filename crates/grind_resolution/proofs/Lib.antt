@@ -1,4 +1,10 @@
+pub mod DeclaredLaws
+pub mod FormedSchemes
 pub mod Givens
 pub mod KnownTerms
+pub mod OneSchemes
+pub mod OneSorts
+pub mod ResolvedTerms
+pub mod SizedTerms
 pub mod SortedTerms
 pub mod Trees

@@ -1,5 +1,5 @@
 //! The binders of a declaration, by name.
-ghost use Rattle.std.specs.Prelude.{◌≡◌, ◌<◌, [], ◌∷◌, ◌++◌, length, slice_get, position, Some, Contains, OnOk, OnErr};
+ghost use Rattle.std.specs.Prelude.{◌≡◌, ◌↔◌, ◌<◌, [], ◌∷◌, ◌++◌, length, slice_get, position, Some, Contains, IsTrue, OnOk, OnErr};
 ghost use Rattle.std.specs.Str.{bytes_eq};
 ghost use Rattle.grind_schemes.specs.declared.goal.Constant.{Constant as K};
 ghost use Rattle.grind_resolution.specs.Scopes.{scope_data, binder_names, binder_meaning, AreDistinct};
@@ -57,6 +57,13 @@ impl Scope {
         ensures { result ≡ position (bytes_eq name.now) (binder_names self.now.binders) }
     {
         self.names.find(name)
+    }
+
+    /// Whether a binder has the name.
+    pub fn contains(&self, name: &[u8]) -> bool
+        ensures { IsTrue result ↔ Contains (binder_names self.now.binders) name.now }
+    {
+        self.names.contains(name)
     }
 
     /// The sort of the binder of that number.

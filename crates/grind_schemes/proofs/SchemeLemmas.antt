@@ -44,19 +44,19 @@ module _ (vars : List ℕ) where
 
 module _ {X : Type 0} (P : X → Type 0) where
   -- the first item is some item
-  any_first : (x : X) (xs : List X) → P x → Any P (x ∷ xs)
+  pub any_first : (x : X) (xs : List X) → P x → Any P (x ∷ xs)
   any_first x xs h = (0, x, omega arith, refl, h)
 
   -- an item of the rest is some item
-  any_rest : (x : X) (xs : List X) → Any P xs → Any P (x ∷ xs)
+  pub any_rest : (x : X) (xs : List X) → Any P xs → Any P (x ∷ xs)
   any_rest x xs h = (suc h.0, h.1, omega arith, h.3, h.4)
 
   -- no item is none
-  any_none : Any P [] → ⊥
+  pub any_none : Any P [] → ⊥
   any_none h = omega (arith, h.2)
 
   -- some item is the first or one of the rest
-  any_cases : (x : X) (xs : List X) → Any P (x ∷ xs) → P x ⊎ Any P xs
+  pub any_cases : (x : X) (xs : List X) → Any P (x ∷ xs) → P x ⊎ Any P xs
   any_cases x xs h = cases_at h.0 h.1 h.2 h.3 h.4
     where
       cases_at : (k : ℕ) (y : X) → k < length (x ∷ xs) → slice_index_or (x ∷ xs) k y ≡ y → P y → P x ⊎ Any P xs
