@@ -115,5 +115,5 @@ module _ (reading : OneReading) (lexed : NotBoth) (one_break : OneBreak) (parse 
   one_refusal bytes (refusals.Bad m f) (refusals.TooDeep n) (ts, ds, p, r) s = absurd (declares_apart bytes ts ds n TooDeep p s)
   one_refusal bytes (refusals.Bad m f) (refusals.Bad n g) (ts, ds, p, r) (us, es, q, s) =
       let one = one_fault es m n f g
-          (subst (λ (d : List Declaration). RefusedAt opening_state d m f) (same_declarations bytes ts us ds es p q) r) s in
+      (subst (λ (d : List Declaration). RefusedAt opening_state d m f) (same_declarations bytes ts us ds es p q) r) s in
       same_bad m n f g one.0 one.1

@@ -35,11 +35,7 @@ fn write_note<E: Sink>(notes: &mut E, ending: Ending, name: &[u8]) -> Result<(),
 }
 
 // The line of a refused file.
-fn write_refusal<E: Sink>(
-    notes: &mut E,
-    name: &[u8],
-    refusal: Refusal,
-) -> Result<(), SinkRefusal>
+fn write_refusal<E: Sink>(notes: &mut E, name: &[u8], refusal: Refusal) -> Result<(), SinkRefusal>
     ensures { Notes E.written E.refuses notes.old notes.new (note_of (Ending.Refused refusal) name.now) }
 {
     if let Err(refused) = write_whole(notes, b"grind: ") {

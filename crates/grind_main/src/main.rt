@@ -4,9 +4,9 @@
 ghost use Rattle.std.specs.Prelude.{◌≡◌, ◌≢◌};
 ghost use Rattle.std.specs.declared.io.ErrorKind.{ErrorKind as Kind};
 
+use grind_cli::ending::{Ending, status_of};
 use grind_cli::notes::tell;
 use grind_cli::run::run;
-use grind_cli::status::Status;
 use grind_outside::{FileShelf, StreamSink};
 use std::env;
 use std::io::{self, ErrorKind};
@@ -29,9 +29,9 @@ fn main(rt: HostRuntime) -> ExitCode {
             )
         }
         Err(error) => {
-            let status = status_without_words(error.kind());
-            tell(&mut notes, status, b"");
-            status
+            let ending = ending_without_words(error.kind());
+            tell(&mut notes, ending, b"");
+            status_of(ending)
         }
     };
     ExitCode::from(status.number())
@@ -47,12 +47,12 @@ fn words_of(rt: &(impl Env + AllocGlobal)) -> io::Result<Vec<String>> {
 }
 
 /// How a run ends whose words could not be taken: for want of memory, or where a word is no text.
-fn status_without_words(kind: ErrorKind) -> Status
-    ensures memory { kind ≡ ErrorKind.OutOfMemory → result ≡ Status.Memory }
-    ensures words { kind ≢ ErrorKind.OutOfMemory → result ≡ Status.WordsRefused }
+fn ending_without_words(kind: ErrorKind) -> Ending
+    ensures memory { kind ≡ ErrorKind.OutOfMemory → result ≡ Ending.Memory }
+    ensures words { kind ≢ ErrorKind.OutOfMemory → result ≡ Ending.WordsRefused }
 {
     match kind {
-        ErrorKind::OutOfMemory => Status::Memory,
-        _ => Status::WordsRefused,
+        ErrorKind::OutOfMemory => Ending::Memory,
+        _ => Ending::WordsRefused,
     }
 }
