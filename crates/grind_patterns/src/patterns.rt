@@ -61,7 +61,7 @@ fn chosen(alloc: Global, body: &Scheme, kind: &Kind) -> Result<Option<List<Schem
 fn left_side(alloc: Global, body: &Scheme) -> Result<Option<List<Scheme>>, Memory>
     ensures { IfOk result (λ found. ChosenOrNone body.now Kind.Left found) }
 {
-    let Some((left, _)) = equation(conclusion(body)) else {
+    let Some((left, _right)) = equation(conclusion(body)) else {
         return Ok(None);
     };
     let terms = copied_alone(alloc, left)?;
@@ -72,7 +72,7 @@ fn left_side(alloc: Global, body: &Scheme) -> Result<Option<List<Scheme>>, Memor
 fn right_side(alloc: Global, body: &Scheme) -> Result<Option<List<Scheme>>, Memory>
     ensures { IfOk result (λ found. ChosenOrNone body.now Kind.Right found) }
 {
-    let Some((_, right)) = equation(conclusion(body)) else {
+    let Some((_left, right)) = equation(conclusion(body)) else {
         return Ok(None);
     };
     let terms = copied_alone(alloc, right)?;

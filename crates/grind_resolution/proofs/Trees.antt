@@ -37,6 +37,16 @@ module _ (text : List ℕ) where
       let row = parts_of (Apply name args) in
       (h.0, subst (All (IsPlacedTree text)) (items_hidden-the_row-Tree-0 args) (placed_items row.0 row.1 h.1))
 
+  placed_row : (n : _) (row : Row_of-Tree n) → All (IsPlacedTree text) (items-the_row-Tree n row) → IsPlacedRow text row
+  placed_row n end_of-Tree h = tt
+  placed_row n (more_of-Tree first rest) h = (All-head (IsPlacedTree text) first _ h, placed_row _ rest (All-tail (IsPlacedTree text) first _ h))
+
+  -- and a name at parts that stand in the text stands there
+  pub Apply-placed : (name : Name) (args : Vec Tree Global) → IsPlaced text name → All (IsPlacedTree text) args.items → IsPlacedTree text (Apply name args)
+  Apply-placed name args h all =
+      let row = parts_of (Apply name args) in
+      (h, placed_row row.0 row.1 (subst (All (IsPlacedTree text)) (sym (items_hidden-the_row-Tree-0 args)) all))
+
 -- the same at a tree that is a name at its parts
 pub term_at : (text : List ℕ) (node : Tree) (name : Name) (args : Vec Tree Global) (parts : List Tree) → node ≡ Apply name args → parts ≡ args.items
     → term_of text node ≡ terms.Apply (name_of text name) (row_of_trees text parts)

@@ -22,3 +22,6 @@ pub use resolver::resolve;
 pub use scope::Scope;
 pub use sizes::size_of;
 pub use sorts::sort_of;
+
+#[cfg(test)]
+mod tests;

@@ -61,7 +61,7 @@ mutual
       BeginsWith-trans nodes done.0 (placed done.0 (node_of head sort done.1)).0
       (interned_row-grows substitution _ args nodes) (placed-grows done.0 (node_of head sort done.1))
 
-  interned_row-grows : (substitution : List ℕ) (n : _) (row : Row_of-Scheme n) (nodes : List Node)
+  pub interned_row-grows : (substitution : List ℕ) (n : _) (row : Row_of-Scheme n) (nodes : List Node)
       → BeginsWith nodes (interned_row nodes substitution row).0
   interned_row-grows substitution n end_of-Scheme nodes = BeginsWith-refl nodes
   interned_row-grows substitution n (more_of-Scheme first rest) nodes =
@@ -366,3 +366,9 @@ IsUnderway-done before after nodes grows same_limit e = record {
   within = ([], sym e ∙ sym (append-nil after.nodes));
   limit = same_limit;
 }
+
+-- nodes begin the nodes that schemes leave
+pub BeginsWith-made : (nodes next : List Node) (substitution : List ℕ) (scheme : Scheme) (id : ℕ)
+    → nodes_with next id ≡ interned nodes substitution scheme → BeginsWith nodes next
+BeginsWith-made nodes next substitution scheme id made =
+    subst (λ (d : List Node × ℕ). BeginsWith nodes d.0) (sym made) (interned-grows substitution scheme nodes)

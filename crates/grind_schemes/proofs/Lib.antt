@@ -1,2 +1,4 @@
 pub mod SchemeLemmas
 pub mod InstanceLemmas
+pub mod FreshLemmas
+pub mod InstanceLaws

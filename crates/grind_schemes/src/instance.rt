@@ -3,13 +3,43 @@ ghost use Rattle.std.specs.Prelude.{◌≡◌, ◌<◌, ◌≤◌, length, IfOk,
 ghost use Rattle.grind_term_graph.specs.declared.table.TermRefusal.{TermRefusal};
 ghost use Rattle.grind_term_graph.specs.Shape.{WellShaped};
 ghost use Rattle.grind_term_graph.specs.Placed.{placed};
-ghost use Rattle.grind_schemes.specs.Instances.{node_of, interned, IsUnderway, Suits};
+ghost use Rattle.grind_schemes.specs.Instances.{node_of, interned, IsUnderway, IsSubstitution, Suits};
 ghost use Rattle.grind_schemes.specs.InstanceRows.{interned_list, SuitsEach};
 
+use crate::counting::missing;
 use crate::scheme::Scheme;
+use crate::theorem::Theorem;
 use grind_outside::List;
 use grind_term_graph::{Args, Head, Node, NodeId, SortId, TermRefusal, TermTable};
 use std::alloc::Global;
+
+/// The node of a theorem's body, where these nodes stand for its variables. Nodes that are absent go last, arguments
+/// before their node and from the left.
+///
+/// # Errors
+///
+/// `Full` exactly where more nodes are needed than the limit allows; the table is then unchanged. `Memory` where
+/// memory was wanted; the table then may have some of the nodes.
+pub fn instantiate(
+    alloc: Global,
+    theorem: &Theorem,
+    subst: &[NodeId],
+    table: &mut TermTable,
+) -> Result<NodeId, TermRefusal>
+    requires { IsSubstitution table.old.nodes theorem.now.vars subst.now }
+    ensures ok { IfOk result (λ id. (table.new.nodes, id) ≡ interned table.old.nodes subst.now theorem.now.body) }
+    ensures room { IfOk result (λ _. length (interned table.old.nodes subst.now theorem.now.body).0 ≤ table.old.limit) }
+    ensures full { IsErrOf result TermRefusal.Full → table.old.limit < length (interned table.old.nodes subst.now theorem.now.body).0 }
+    ensures unchanged { IsErrOf result TermRefusal.Full → table.new ≡ table.old }
+    ensures underway { IsUnderway table.old table.new (interned table.old.nodes subst.now theorem.now.body).0 }
+{
+    let _name = theorem.name();
+    let count = missing(alloc, theorem, subst, table)?;
+    if count > table.limit() - table.len() {
+        return Err(TermRefusal::Full);
+    }
+    intern_scheme(alloc, &theorem.body, subst, table)
+}
 
 /// The node of a scheme, where these nodes stand for its variables. Nodes that are absent go last, arguments before
 /// their node and from the left. There is no roll-back: after a refusal the table may have some of the nodes.

@@ -1,0 +1,9 @@
+pub mod AnnotationLemmas
+pub mod DeclarationLemmas
+pub mod FileLemmas
+pub mod Fronts
+pub mod Items
+pub mod ListLemmas
+pub mod OperatorLemmas
+pub mod TermLemmas
+pub mod TreeLemmas

@@ -1,6 +1,16 @@
-//! Stub.
+//! The reader of a theory file: from its tokens to its declarations.
 #![tactic(auto)]
 
+mod annotations;
+mod built;
+mod declarations;
+mod kept;
+mod levels;
+mod lists;
+mod names;
 pub mod parse;
-
-
+mod parts;
+mod pieces;
+mod sides;
+mod terms;
+mod trees;

@@ -138,6 +138,14 @@ impl TermTable {
         self.nodes.len() as u32
     }
 
+    /// How many nodes fit.
+    pub fn limit(&self) -> u32
+        ensures value { result ≡ self.now.limit }
+        ensures bound { length self.now.nodes ≤ self.now.limit }
+    {
+        self.limit
+    }
+
     /// A table of the same nodes, for at most `limit` of them.
     pub fn copy(&self, alloc: Global, limit: u32) -> Result<TermTable, Memory>
         requires { length self.now.nodes ≤ limit }

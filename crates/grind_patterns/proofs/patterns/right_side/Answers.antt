@@ -8,5 +8,5 @@ returns-in_default c = λ chosen h.
 
 pub returns : goal.returns
 returns c =
-    let is = subst (IsEquation c.in-Some.field-0-0.now c.in-Some.right.now) c.conclusion.ensures c.in-Some.ensures.sides in
-    (c.in-Some.right.now ∷ [], (c.in-Some.field-0-0.now, c.in-Some.right.now, is, refl), c.in_ok-terms.ensures)
+    let is = subst (IsEquation c.in-Some._left.now c.in-Some.right.now) c.conclusion.ensures c.in-Some.ensures.sides in
+    (c.in-Some.right.now ∷ [], (c.in-Some._left.now, c.in-Some.right.now, is, refl), c.in_ok-terms.ensures)

@@ -1,0 +1,50 @@
+use Rattle.std.proofs.Common.{◌≡◌, ◌∙◌, ◌<◌, ◌∷◌, ◌++◌, [], Some, length, ap, sym, arith}
+use Rattle.std.proofs.lemmas.List.Elements.{All-nil}
+use Rattle.grind_grammar.specs.Lexemes.{lexemes}
+use Rattle.grind_grammar.specs.Reading.{all_of, read}
+use Rattle.grind_syntax.specs.Places.{Past}
+use Rattle.grind_syntax.specs.Levels.{level}
+use Rattle.grind_syntax.specs.declared.levels.Level.TheVariants as levels
+use Rattle.grind_syntax.specs.Annotated.{annotation_given, annotations_given, with_annotation, IsPlacedAnnotation}
+use Rattle.grind_syntax.proofs.Items.{behind_all, behind_past, map_read}
+use Rattle.grind_syntax.proofs.TermLemmas.{past_then_behind}
+use Rattle.grind_syntax.proofs.AnnotationLemmas.{annots_begin, annots_next, annots_fail, annots_end, annots_last, no_annots}
+use Rattle.grind_syntax.proofs.annotations.annotations.Goals as goal
+
+pub loop-mid-init : goal.loop-mid-init
+loop-mid-init c =
+    let text = c.args.text.now in
+    rw c.new.ensures record {
+      done = [];
+      so_far = annots_begin (level levels.Sum c.args.room) text c.args.tokens.now;
+      all = sym no_annots;
+      placed = All-nil (IsPlacedAnnotation text);
+      behind = behind_all text c.args.tokens.now c.requires;
+    }
+
+pub returns-in_default-2-clause-is : goal.returns-in_default-2-clause-is
+returns-in_default-2-clause-is c =
+    annots_fail (level levels.Sum c.args.room) _ _ _ _ c.loop-mid.invariant.so_far _ c.in-Some.ensures.is (rw c.in_default-2.is at c.in_ok-annot.ensures.is)
+
+pub loop-mid-preserved : goal.loop-mid-preserved
+loop-mid-preserved c =
+    let text = c.args.text.now in
+    let left = rw c.in-Some-2.is at c.in_ok-annot.ensures.left in
+    let past : Past text c.loop-mid.rest.now c.in-Some-2.left.now =
+    past_then_behind text c.loop-mid.rest.now c.in-Some.mid.now c.in-Some-2.left.now c.in-Some.ensures.left left.1 in
+    record {
+      done = c.loop-mid.invariant.done ++ annotation_given text c.in-Some-2.annot ∷ [];
+      so_far = annots_next (level levels.Sum c.args.room) _ _ _ _ c.loop-mid.invariant.so_far (lexemes text c.in-Some.mid.now)
+          (annotation_given text c.in-Some-2.annot) (lexemes text c.in-Some-2.left.now) (length c.in-Some-2.left.now) c.in-Some.ensures.is
+          (rw c.in-Some-2.is at c.in_ok-annot.ensures.is) past.fewer;
+      all = c.in_ok-annots.ensures.is text ∙ ap (λ xs. with_annotation xs (annotation_given text c.in-Some-2.annot)) c.loop-mid.invariant.all
+          ∙ sym (annots_last c.loop-mid.invariant.done (annotation_given text c.in-Some-2.annot));
+      placed = c.in_ok-annots.ensures.placed text c.loop-mid.invariant.placed left.0;
+      behind = behind_past text c.args.tokens.now c.loop-mid.rest.now c.in-Some-2.left.now c.loop-mid.invariant.behind past;
+    }
+
+pub returns-clause-is : goal.returns-clause-is
+returns-clause-is c =
+    let text = c.args.text.now in
+    map_read all_of _ _ _ (annots_end (level levels.Sum c.args.room) _ _ _ _ c.loop-mid.invariant.so_far c.in_default.ensures.is)
+    ∙ ap (λ xs. read xs (lexemes text c.loop-mid.rest.now)) (sym c.loop-mid.invariant.all)

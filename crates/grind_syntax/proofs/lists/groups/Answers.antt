@@ -1,0 +1,69 @@
+use Rattle.std.proofs.Common.{◌≡◌, ◌∙◌, ◌<◌, ◌++◌, [], ◌∷◌, Option, Some, length, ap, sym, subst, arith, rules, All, List}
+use Rattle.std.specs.Prelude.{map}
+use Rattle.std.proofs.lemmas.List.Elements.{All-nil, All-append}
+use Rattle.grind_tokens.specs.declared.tokens.Sym.TheVariants as symbols
+use Rattle.grind_grammar.specs.Terms.{Bound}
+use Rattle.grind_grammar.specs.Lexemes.{lexemes}
+use Rattle.grind_grammar.specs.Grammar.{joined}
+use Rattle.grind_grammar.specs.Reading.{group, read, list_at}
+use Rattle.grind_syntax.specs.Places.{Past, Behind, Gives, ItemsSoFar, bound_of, IsPlacedBound}
+use Rattle.grind_syntax.proofs.Items.{items_begin, items_next, items_last, items_none, behind_all, behind_on, past_on, behind_past, behind_then_past, map_read}
+use Rattle.grind_syntax.proofs.ListLemmas.{joined_more}
+use Rattle.grind_syntax.proofs.lists.groups.Goals as goal
+
+pub loop-binders-init : goal.loop-binders-init
+loop-binders-init c =
+    let text = c.args.text.now in
+    rw c.new-binders.ensures record {
+      done = [];
+      so_far = items_begin group symbols.Comma text c.args.tokens.now;
+      all = search rules;
+      kept = All-nil (IsPlacedBound text);
+      behind = behind_all text c.args.tokens.now c.requires;
+    }
+
+pub returns-in_default-symbol_at-clause-is : goal.returns-in_default-symbol_at-clause-is
+returns-in_default-symbol_at-clause-is c =
+    let text = c.args.text.now in
+    let found = rw c.in-Some.is at c.in_ok-bound.ensures.is in
+    let grown : c.extend.new.self ≡ c.loop-binders.binders ++ c.in-Some.bound =
+    c.in_ok-extend.ensures.ok ∙ ap (λ xs. c.loop-binders.binders ++ xs) c.as_slice.ensures.value in
+    map_read joined _ _ _
+    (items_last group symbols.Comma _ _ _ _ c.loop-binders.invariant.so_far (map (bound_of text) c.in-Some.bound) (lexemes text c.in-Some.behind.now)
+    found c.in_default-symbol_at.ensures.is)
+    ∙ ap (λ bs. read bs (lexemes text c.in-Some.behind.now))
+    (sym (joined_more (bound_of text) c.loop-binders.binders c.in-Some.bound c.extend.new.self c.loop-binders.invariant.done c.loop-binders.invariant.all grown))
+
+pub returns-in_default-symbol_at-clause-left : goal.returns-in_default-symbol_at-clause-left
+returns-in_default-symbol_at-clause-left c =
+    let text = c.args.text.now in
+    let left = rw c.in-Some.is at c.in_ok-bound.ensures.left in
+    let grown : c.extend.new.self ≡ c.loop-binders.binders ++ c.in-Some.bound =
+    c.in_ok-extend.ensures.ok ∙ ap (λ xs. c.loop-binders.binders ++ xs) c.as_slice.ensures.value in (
+      subst (All (IsPlacedBound text)) (sym grown)
+          (All-append (IsPlacedBound text) c.loop-binders.binders c.in-Some.bound c.loop-binders.invariant.kept left.0),
+      behind_on text c.args.tokens.now c.loop-binders.rest.now c.in-Some.behind.now c.loop-binders.invariant.behind left.1,
+    )
+
+pub loop-binders-preserved : goal.loop-binders-preserved
+loop-binders-preserved c =
+    let text = c.args.text.now in
+    let found = rw c.in-Some.is at c.in_ok-bound.ensures.is in
+    let left = rw c.in-Some.is at c.in_ok-bound.ensures.left in
+    let grown : c.extend.new.self ≡ c.loop-binders.binders ++ c.in-Some.bound =
+    c.in_ok-extend.ensures.ok ∙ ap (λ xs. c.loop-binders.binders ++ xs) c.as_slice.ensures.value in
+    let past : Past text c.loop-binders.rest.now c.in-Some-symbol_at.left.now =
+    behind_then_past text c.loop-binders.rest.now c.in-Some.behind.now c.in-Some-symbol_at.left.now left.1 c.in-Some-symbol_at.ensures.left in
+    record {
+      done = c.loop-binders.invariant.done ++ map (bound_of text) c.in-Some.bound ∷ [];
+      so_far = items_next group symbols.Comma _ _ _ _ c.loop-binders.invariant.so_far (map (bound_of text) c.in-Some.bound) (lexemes text c.in-Some.behind.now)
+          (lexemes text c.in-Some-symbol_at.left.now) (length c.in-Some-symbol_at.left.now) found c.in-Some-symbol_at.ensures.is past.fewer;
+      all = joined_more (bound_of text) c.loop-binders.binders c.in-Some.bound c.extend.new.self c.loop-binders.invariant.done c.loop-binders.invariant.all grown;
+      kept = subst (All (IsPlacedBound text)) (sym grown)
+          (All-append (IsPlacedBound text) c.loop-binders.binders c.in-Some.bound c.loop-binders.invariant.kept left.0);
+      behind = behind_past text c.args.tokens.now c.loop-binders.rest.now c.in-Some-symbol_at.left.now c.loop-binders.invariant.behind past;
+    }
+
+pub returns-clause-is : goal.returns-clause-is
+returns-clause-is c =
+    items_none group symbols.Comma _ _ _ _ c.loop-binders.invariant.so_far (rw c.in_default.is at c.in_ok-bound.ensures.is)

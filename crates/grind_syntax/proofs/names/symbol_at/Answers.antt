@@ -1,0 +1,19 @@
+use Rattle.std.proofs.Common.{◌≡◌, ◌∷◌, List, rules, arith, length}
+use Rattle.grind_grammar.specs.Lexemes.{Lexeme, Symbol, lexemes}
+use Rattle.grind_syntax.proofs.Fronts.{symbol_front, no_symbol_front, no_symbol_at_end}
+use Rattle.grind_syntax.proofs.names.symbol_at.Goals as goal
+
+pub returns-in_default-clause-is : goal.returns-in_default-clause-is
+returns-in_default-clause-is c =
+    let end : length c.args.tokens.now ≡ 0 = search rules in
+    no_symbol_at_end c.args.sym c.args._text.now c.args.tokens.now end
+
+pub returns-then-eq-clause-is : goal.returns-then-eq-clause-is
+returns-then-eq-clause-is c =
+    let is : lexemes c.args._text.now c.args.tokens.now ≡ Symbol c.args.sym ∷ lexemes c.args._text.now c.in-Some.left.now = search rules in
+    symbol_front c.args.sym (lexemes c.args._text.now c.args.tokens.now) _ is
+
+pub returns-clause-is : goal.returns-clause-is
+returns-clause-is c =
+    let not : (rest : List Lexeme) → lexemes c.args._text.now c.args.tokens.now ≡ Symbol c.args.sym ∷ rest → ⊥ = search rules in
+    no_symbol_front c.args.sym (lexemes c.args._text.now c.args.tokens.now) not

@@ -1,0 +1,34 @@
+-- What stands before a dot.
+use Rattle.std.specs.Prelude.{◌≡◌, ◌≢◌, ℕ, ◌+◌, ◌-◌, List, [], ◌∷◌, ◌++◌, length, All}
+use Rattle.grind_tokens.specs.declared.tokens.Sym.TheVariants as symbols
+use Rattle.grind_tokens.specs.declared.tokens.TokenKind.{TokenKind}
+use Rattle.grind_tokens.specs.declared.tokens.TokenKind.TheVariants as kinds
+use Rattle.grind_tokens.specs.declared.tokens.Token.{Token}
+use Rattle.grind_grammar.specs.Lexemes.{Lexeme, Symbol, lexemes}
+use Rattle.grind_grammar.specs.Reading.{symbol_at}
+use Rattle.grind_grammar.specs.Parentheses.{open_after_symbol}
+use Rattle.grind_syntax.specs.Places.{Placed}
+
+-- how many parentheses are open behind a token
+abbrev pub open_behind : ℕ → TokenKind → ℕ
+open_behind count kinds.Word = count
+open_behind count (kinds.Number value) = count
+open_behind count (kinds.Symbol sym) = open_after_symbol count sym
+
+-- none of the tokens is a dot
+abbrev pub AreUndotted : List Token → Type 0
+AreUndotted = All (λ t. t.kind ≢ kinds.Symbol symbols.Dot)
+
+-- a dot stands first, or nothing is there
+abbrev pub BeginsWithDot : List Token → Type 0
+BeginsWithDot [] = Unit {0}
+BeginsWithDot (t ∷ tokens) = t.kind ≡ kinds.Symbol symbols.Dot
+
+-- so many tokens stand before the first dot, or before the end
+pub record DotBehind (tokens : List Token) (count : ℕ) : Type 0 where
+  pub piece : List Token
+  pub behind : List Token
+  pub whole : tokens ≡ piece ++ behind
+  pub counted : length piece ≡ count
+  pub undotted : AreUndotted piece
+  pub ends : BeginsWithDot behind
