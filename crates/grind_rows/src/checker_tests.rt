@@ -63,7 +63,12 @@ fn proof_of(alloc: Global, goal: &Goal, lines: List<Line>) -> Result<Proof, Memo
 {
     let _name = goal.name();
     let terms = goal.terms().copy(alloc, u32::MAX)?;
-    Ok(Proof { terms, lines })
+    let branches = List::new(alloc);
+    Ok(Proof {
+        terms,
+        branches,
+        lines,
+    })
 }
 
 /// Asserts what the checker says of the proof with this third line.
