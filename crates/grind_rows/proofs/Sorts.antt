@@ -1,0 +1,29 @@
+-- Sorts of two nodes, and of lists of nodes one by one.
+use Rattle.std.proofs.Common.{◌≡◌, ℕ, ◌<◌, ◌≤◌, List, [], ◌∷◌, Some, length, map, slice_index_or, refl, ap, arith}
+use Rattle.grind_term_graph.specs.declared.node.Node.{Node}
+use Rattle.grind_term_graph.specs.Terms.{prop, sort_at}
+use Rattle.grind_term_graph.specs.Shape.{AreTwoAlike}
+
+-- a list of two items is its first and its second
+pub two_items : (xs : List ℕ) → 2 ≤ length xs → length xs < 3 → xs ≡ slice_index_or xs 0 0 ∷ slice_index_or xs 1 0 ∷ []
+two_items [] low high = absurd (omega arith)
+two_items (x ∷ []) low high = absurd (omega arith)
+two_items (x ∷ y ∷ []) low high = refl
+two_items (x ∷ y ∷ z ∷ rest) low high = absurd (omega arith)
+
+-- two of one sort
+pub two_alike : (nodes : List Node) (xs : List ℕ) → 2 ≤ length xs → length xs < 3
+    → sort_at nodes (slice_index_or xs 0 0) ≡ sort_at nodes (slice_index_or xs 1 0) → AreTwoAlike (map (sort_at nodes) xs)
+two_alike nodes [] low high same = absurd (omega arith)
+two_alike nodes (x ∷ []) low high same = absurd (omega arith)
+two_alike nodes (x ∷ y ∷ []) low high same = same
+two_alike nodes (x ∷ y ∷ z ∷ rest) low high same = absurd (omega arith)
+
+-- two formulas
+pub two_formulas : (nodes : List Node) (xs : List ℕ) → 2 ≤ length xs → length xs < 3
+    → sort_at nodes (slice_index_or xs 0 0) ≡ Some prop → sort_at nodes (slice_index_or xs 1 0) ≡ Some prop
+    → map (sort_at nodes) xs ≡ Some prop ∷ Some prop ∷ []
+two_formulas nodes [] low high one other = absurd (omega arith)
+two_formulas nodes (x ∷ []) low high one other = absurd (omega arith)
+two_formulas nodes (x ∷ y ∷ []) low high one other = cc
+two_formulas nodes (x ∷ y ∷ z ∷ rest) low high one other = absurd (omega arith)
