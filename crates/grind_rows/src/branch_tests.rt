@@ -215,75 +215,74 @@ fn a_proof_of_two_branches(rt: HostRuntime) -> Result<(), Fail> {
 }
 
 #[test]
-fn branches_that_stand_wrongly(rt: HostRuntime) -> Result<(), Fail> {
+fn a_proof_without_lines(rt: HostRuntime) -> Result<(), Fail> {
     let goal = made_goal(rt.alloc())?;
     assert!(rt; goal.is_some());
     let goal = goal.unwrap();
-    let more = ["3 clash 4 4 : absurd", "4 clash 4 4 : absurd"];
-    let later = [
+    let case = Case {
+        count: 0,
+        changed: &[],
+        more: &[],
+        branches: &[],
+        verdict: Verdict::BadBranch { first: 0 },
+    };
+    assert_eq!(rt; verdict_of(&rt, &goal, &case)?, case.verdict);
+    Ok(())
+}
+
+/// Asserts what the checker says of the first lines of the proof, with another pair of branches that goes on from
+/// this branch and begins at this line. Contradictions in the branches 2, 3 and 4 stand behind.
+fn judges_pair(
+    rt: &(impl Abort + AllocGlobal),
+    goal: &Goal,
+    count: usize,
+    parent: u32,
+    after: u32,
+    verdict: Verdict,
+) -> Result<(), Fail> {
+    let more = [
         "2 clash 4 4 : absurd",
         "3 clash 4 4 : absurd",
         "4 clash 4 4 : absurd",
     ];
-    for (count, more, parent, first, after, verdict) in [
-        // without lines and branches
-        (0, [].as_slice(), 0, 0, 0, Verdict::BadBranch { first: 0 }),
-        // another pair behind branch 1, and behind the root, which has one
-        (
-            18,
-            more.as_slice(),
-            1,
-            7,
-            18,
-            Verdict::BadLine { first: 18 },
-        ),
-        (
-            18,
-            more.as_slice(),
-            0,
-            7,
-            18,
-            Verdict::BadBranch { first: 3 },
-        ),
-        // a pair behind branch 1, which has no line, at the line at which that one begins, and before
-        (7, later.as_slice(), 1, 7, 7, Verdict::BadLine { first: 7 }),
-        (
-            7,
-            later.as_slice(),
-            1,
-            7,
-            6,
-            Verdict::BadBranch { first: 3 },
-        ),
-        // a pair behind branch 1 before its last line
-        (
-            18,
-            more.as_slice(),
-            1,
-            7,
-            11,
-            Verdict::BadBranch { first: 3 },
-        ),
+    let branches = [
+        (0, 7, "holds 4"),
+        (0, 7, "fails 4"),
+        (parent, after, "holds 6"),
+        (parent, after, "fails 6"),
+    ];
+    let case = Case {
+        count,
+        changed: &[],
+        more: &more,
+        branches: &branches,
+        verdict,
+    };
+    assert_eq!(rt;
+        verdict_of(rt, goal, &case)?,
+        case.verdict,
+        "{count} {parent} {after}"
+    );
+    Ok(())
+}
+
+#[test]
+fn pairs_of_branches(rt: HostRuntime) -> Result<(), Fail> {
+    let goal = made_goal(rt.alloc())?;
+    assert!(rt; goal.is_some());
+    let goal = goal.unwrap();
+    let third = Verdict::BadBranch { first: 3 };
+    for (count, parent, after, verdict) in [
+        // behind branch 1, and behind the root, which has a pair
+        (18, 1, 18, Verdict::BadLine { first: 18 }),
+        (18, 0, 18, third),
+        // before the last line of branch 1
+        (18, 1, 11, third),
+        // where branch 1 has no line: at the line at which it begins, and before
+        (7, 1, 7, Verdict::BadLine { first: 7 }),
+        (7, 1, 6, third),
     ] {
-        let four = [
-            (0, first, "holds 4"),
-            (0, first, "fails 4"),
-            (parent, after, "holds 6"),
-            (parent, after, "fails 6"),
-        ];
-        let branches = if count == 0 { &four[..0] } else { &four[..] };
-        let case = Case {
-            count,
-            changed: &[],
-            more,
-            branches,
-            verdict,
-        };
-        assert_eq!(rt;
-            verdict_of(&rt, &goal, &case)?,
-            case.verdict,
-            "{parent} {after}"
-        );
+        judges_pair(&rt, &goal, count, parent, after, verdict)?;
     }
     Ok(())
 }

@@ -28,7 +28,8 @@ pub fn put(
         return Ok(false);
     }
     let args = Args::from_slice(alloc, args)?;
-    let _id = terms.intern(alloc, Node { head, sort, args })?;
+    let node = Node { head, sort, args };
+    let _id = terms.intern(alloc, node)?;
     Ok(true)
 }
 
