@@ -24,13 +24,28 @@ pub fn put(
     sort: SortId,
     args: &[NodeId],
 ) -> Result<bool, TermRefusal> {
-    if args.len() > 16 || !are_within(terms, args) || !is_shaped(terms, head, sort, args) {
+    if args.len() > 16 {
         return Ok(false);
     }
     let args = Args::from_slice(alloc, args)?;
-    let node = Node { head, sort, args };
-    let _id = terms.intern(alloc, node)?;
+    put_node(alloc, terms, Node { head, sort, args })
+}
+
+/// The same of a node.
+fn put_node(alloc: Global, terms: &mut TermTable, node: Node) -> Result<bool, TermRefusal> {
+    if !is_well_shaped(terms, &node) {
+        return Ok(false);
+    }
+    terms.intern(alloc, node)?;
     Ok(true)
+}
+
+/// Whether the node has arguments that stand in the table, and a sort and arguments as its head asks.
+fn is_well_shaped(terms: &TermTable, node: &Node) -> bool
+    ensures { IsTrue result → WellShaped terms.now.nodes node.now }
+{
+    let args = node.args.as_slice();
+    are_within(terms, args) && is_shaped(terms, node.head, node.sort, args)
 }
 
 /// Whether these are nodes of the table.
