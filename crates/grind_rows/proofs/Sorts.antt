@@ -4,13 +4,6 @@ use Rattle.grind_term_graph.specs.declared.node.Node.{Node}
 use Rattle.grind_term_graph.specs.Terms.{prop, sort_at}
 use Rattle.grind_term_graph.specs.Shape.{AreTwoAlike}
 
--- a list of two items is its first and its second
-pub two_items : (xs : List ℕ) → 2 ≤ length xs → length xs < 3 → xs ≡ slice_index_or xs 0 0 ∷ slice_index_or xs 1 0 ∷ []
-two_items [] low high = absurd (omega arith)
-two_items (x ∷ []) low high = absurd (omega arith)
-two_items (x ∷ y ∷ []) low high = refl
-two_items (x ∷ y ∷ z ∷ rest) low high = absurd (omega arith)
-
 -- two of one sort
 pub two_alike : (nodes : List Node) (xs : List ℕ) → 2 ≤ length xs → length xs < 3
     → sort_at nodes (slice_index_or xs 0 0) ≡ sort_at nodes (slice_index_or xs 1 0) → AreTwoAlike (map (sort_at nodes) xs)

@@ -9,6 +9,8 @@ mod checker_tests;
 #[cfg(test)]
 mod made_goal;
 #[cfg(test)]
+mod rule_tests;
+#[cfg(test)]
 mod spelled;
 #[cfg(test)]
 mod tests;

@@ -1,6 +1,6 @@
 //! Terms and a goal that are made by hand. Each part of what terms and goals keep is tested, and where one
 //! fails nothing is made.
-ghost use Rattle.std.specs.Prelude.{◌≡◌, ◌≢◌, ◌<◌, ◌≤◌, ℕ, IsTrue, All, [], ◌∷◌, Some, length, map, slice_get, slice_index_or, IfSome};
+ghost use Rattle.std.specs.Prelude.{◌≡◌, ◌≢◌, ◌<◌, ℕ, IsTrue, All, [], ◌∷◌, Some, length, map, slice_index_or, IfSome};
 ghost use Rattle.std.specs.List.{AllPairs};
 ghost use Rattle.grind_term_graph.specs.declared.node.Node.{Node as NodeData};
 ghost use Rattle.grind_term_graph.specs.Terms.{prop, sort_at};
