@@ -5,7 +5,7 @@ ghost use Rattle.grind_proof_kernel.specs.Typing.{HasTerms};
 
 use grind_cli::reader::theory_of;
 use grind_outside::{List, Memory};
-use grind_proof_kernel::{Claim, Line, Proof, Rule, Verdict, check, check_line};
+use grind_proof_kernel::{Branch, Claim, Line, Proof, Rule, Verdict, check, check_line};
 use grind_schemes::{Goal, Lemmas};
 use grind_term_graph::NodeId;
 use std::alloc::Global;
@@ -57,13 +57,22 @@ fn lines_with(alloc: Global, third: Row) -> Result<List<Line>, Memory> {
     Ok(lines)
 }
 
-/// A proof over the terms of the goal, with these lines.
-fn proof_of(alloc: Global, goal: &Goal, lines: List<Line>) -> Result<Proof, Memory>
+/// A proof over the terms of the goal, with these branches and lines.
+pub fn proof_of(
+    alloc: Global,
+    goal: &Goal,
+    branches: List<Branch>,
+    lines: List<Line>,
+) -> Result<Proof, Memory>
     ensures { IfOk result (HasTerms goal.now) }
 {
     let _name = goal.name();
     let terms = goal.terms().copy(alloc, u32::MAX)?;
-    Ok(Proof { terms, lines })
+    Ok(Proof {
+        terms,
+        branches,
+        lines,
+    })
 }
 
 /// Asserts what the checker says of the proof with this third line.
@@ -77,7 +86,7 @@ fn judges(
 ) -> Result<(), Memory> {
     let alloc = rt.alloc();
     let lines = lines_with(alloc, third)?;
-    let proof = proof_of(alloc, goal, lines)?;
+    let proof = proof_of(alloc, goal, List::new(alloc), lines)?;
     assert!(rt; proof.lines.len() == 4);
     assert!(rt;
         check_line(alloc, lemmas, goal, &proof, 2)? == typed,
@@ -152,7 +161,7 @@ fn a_proof_must_end_in_a_contradiction(rt: HostRuntime) -> Result<(), Fail> {
     let goals = theory.goals.as_slice();
     assert!(rt; goals.len() == 1);
     let goal = &goals[0];
-    let proof = proof_of(alloc, goal, List::new(alloc))?;
+    let proof = proof_of(alloc, goal, List::new(alloc), List::new(alloc))?;
     let verdict = check(alloc, &theory.lemmas, goal, &proof)?;
     assert!(rt; verdict == Verdict::BadBranch { first: 0 });
     Ok(())

@@ -3,6 +3,14 @@
 #![tactic(auto)]
 
 #[cfg(test)]
+mod branch_tests;
+#[cfg(test)]
 mod checker_tests;
+#[cfg(test)]
+mod made_goal;
+#[cfg(test)]
+mod rule_tests;
+#[cfg(test)]
+mod spelled;
 #[cfg(test)]
 mod tests;

@@ -31,6 +31,57 @@ end 1
 
 const EMPTY_REPORT: &str = "grind report 1\nend 0\n";
 
+const OPEN_REPORT: &str = "grind report 1\ngoal t open unexplored\nend 1\n";
+
+const SELF_REPORT: &str = "grind report 1
+goal t closed
+terms 4
+0 true
+1 false
+2 const a
+3 eq 2 2
+branches 0
+lines 3
+0 0 hyp 1 : holds 3
+1 0 negated : fails 3
+2 0 clash 0 1 : absurd
+end 1
+";
+
+const EQUAL_REPORT: &str = "grind report 1
+goal t closed
+terms 5
+0 true
+1 false
+2 const a
+3 const b
+4 eq 2 3
+branches 0
+lines 3
+0 0 hyp 1 : holds 4
+1 0 negated : fails 4
+2 0 clash 0 1 : absurd
+end 1
+";
+
+const UNEQUAL_REPORT: &str = "grind report 1
+goal t closed
+terms 7
+0 true
+1 false
+2 const a
+3 const b
+4 eq 2 3
+5 eq 3 2
+6 not 5
+branches 0
+lines 3
+0 0 hyp 2 : holds 6
+1 0 negated : fails 6
+2 0 clash 0 1 : absurd
+end 1
+";
+
 /// What a run left.
 #[derive(Drop)]
 struct Left {
@@ -115,14 +166,47 @@ fn theories(rt: HostRuntime) -> Result<(), Fail> {
         Status::AllClosed,
         EMPTY_REPORT,
         "",
+    )
+}
+
+#[test]
+fn goals_that_their_hypotheses_close(rt: HostRuntime) -> Result<(), Fail> {
+    solves(
+        &rt,
+        "sort S. goal t (a: S): a = a |- a = a.",
+        Status::AllClosed,
+        SELF_REPORT,
+        "",
     )?;
     solves(
         &rt,
-        "sort S. goal t (a b: S): |- a = b.",
-        Status::SomeOpen,
-        "grind report 1\ngoal t open unexplored\nend 1\n",
+        "sort S. goal t (a b: S): a = b |- a = b.",
+        Status::AllClosed,
+        EQUAL_REPORT,
+        "",
+    )?;
+    solves(
+        &rt,
+        "sort S. goal t (a b: S): a = b; b != a |- b != a.",
+        Status::AllClosed,
+        UNEQUAL_REPORT,
         "",
     )
+}
+
+#[test]
+fn goals_that_stay_open(rt: HostRuntime) -> Result<(), Fail> {
+    for text in [
+        "sort S. goal t (a b: S): |- a = b.",
+        "sort S. goal t (a b: S): |- a != b.",
+        "sort S. goal t (a b: S): a = b |- b = a.",
+        "sort S. goal t (a b: S): a = b |- a != b.",
+        "sort S. goal t (a b c: S): a != a |- b = c.",
+        "sort S. fun f(S): S. goal t (a: S): f(f(f(a))) = a ; f(f(f(f(f(a))))) = a |- f(a) = a.",
+    ] {
+        solves(&rt, text, Status::SomeOpen, OPEN_REPORT, "")?;
+    }
+    Ok(())
 }
 
 #[test]
@@ -161,8 +245,20 @@ fn files_that_are_no_theory(rt: HostRuntime) -> Result<(), Fail> {
         "sort S. goal t (a: S): |- a = a = a.",
         "sort S. goal t (a: S): |- a.",
         "sort S. goal t (): |- a = a.",
-        "sort S. goal t (a: S): a = a |- a = a.",
         "sort S. fun f(): S.",
+        "sort S. goal t (a b c: S): |- a != b != c.",
+        "sort S. goal t (a b c: S): |- a = b != c.",
+        "sort S. goal t (a: S): a = a = a |- a = a.",
+        "sort S. goal t (a: S): a != a != a |- a = a.",
+        "sort S. goal t (a: S): a = a; |- a = a.",
+        "sort S. goal t (a: S): ; a = a |- a = a.",
+        "sort S. goal t (a: S): a = a a = a |- a = a.",
+        "sort S. goal t (a: S): a = a, a = a |- a = a.",
+        "sort S. goal t (a: S): a |- a = a.",
+        "sort S. goal t (a: S): a = a.",
+        "sort S. goal t (a: S): a = a |-.",
+        "sort S. goal t (a: S): a = a |- a = a; a = a.",
+        "sort S. goal t (a: S) |- a = a.",
         // names, numbers of arguments and sorts
         "sort S. sort S.",
         "sort S. goal S (a: S): |- a = a.",
@@ -175,6 +271,9 @@ fn files_that_are_no_theory(rt: HostRuntime) -> Result<(), Fail> {
         "sort S. goal t (a: S): |- a(a) = a.",
         "sort S. sort T. fun f(S): S. goal t (a: T): |- f(a) = f(a).",
         "sort S. sort T. goal t (a: S, b: T): |- a = b.",
+        "sort S. sort T. goal t (a: S, b: T): |- a != b.",
+        "sort S. sort T. goal t (a: S, b: T): a = b |- a = a.",
+        "sort S. goal t (a: S): b = b |- a = a.",
         "sort S. goal t (a: Int): |- a = a.",
         "sort S. goal t (a: S): |- t = t.",
         "sort S. fun f(S, S, S, S, S, S, S, S, S, S, S, S, S, S, S, S, S): S.",
