@@ -57,8 +57,10 @@ impl Classes {
         ensures ok { OnOk result (self.new ≡ with_class self.old n) }
         ensures active { OnOk result ((x : ℕ) → IsActive self.new x ↔ (IsActive self.old x ⊎ (x ≡ n))) }
         ensures together { OnOk result ((x y : ℕ) → AreTogether self.new x y ↔ (AreTogether self.old x y ⊎ ((x ≡ n) × (y ≡ n)))) }
+        ensures partition { IsPartition self.new }
         ensures err { OnErr result (self.new ≡ self.old) }
     {
+        let _lists = &self.lists;
         let mut own = List::new(alloc);
         own.push(n)?;
         reach(&mut self.roots, n)?;
@@ -128,6 +130,7 @@ impl Classes {
             → IsMerge self.old ra rb self.new merged.root merged.moved) }
         ensures together { OnOk result ((x y : ℕ) → AreMergedAt self.old a b self.new x y) }
         ensures active { OnOk result ((x : ℕ) → IsActive self.new x ↔ IsActive self.old x) }
+        ensures partition { IsPartition self.new }
         ensures err { OnErr result (self.new ≡ self.old) }
     {
         let left = self.root(a);
@@ -152,6 +155,7 @@ impl Classes {
         ensures swapped { OnOk result ((a b x y : ℕ) → IsIn self.old kept a → IsIn self.old gone b
             → AreMergedAt self.old b a self.new x y) }
         ensures active { OnOk result ((x : ℕ) → IsActive self.new x ↔ IsActive self.old x) }
+        ensures partition { IsPartition self.new }
         ensures err { OnErr result (self.new ≡ self.old) }
     {
         let moved = join_lists(alloc, &mut self.lists, kept, gone)?;

@@ -1,7 +1,7 @@
 use Rattle.std.specs.Prelude.{◌≡◌, ◌∷◌, [], Some, ℕ, List, set}
 use Rattle.std.proofs.Common.{◌∙◌, sym, ap}
 use Rattle.grind_classes.specs.Classes.{IsActive, with_class}
-use Rattle.grind_classes.proofs.ClassLemmas.{AreTied-longer, AreTied-with_class, active-with_class, together-with_class}
+use Rattle.grind_classes.proofs.ClassLemmas.{AreTied-longer, IsPartition-with_class, AreTied-with_class, active-with_class, together-with_class}
 use Rattle.grind_classes.proofs.classes.Classes.activate.Goals as goal
 
 pub invariant_of-self : goal.invariant_of-self
@@ -34,3 +34,7 @@ returns-clause-active c = λ x.
 pub returns-clause-together : goal.returns-clause-together
 returns-clause-together c = λ x y.
     rw (lists_are c, ← c.self.view_is) (together-with_class c.self.inside.lists c.args.n x y c.self.invariant.partition (new c))
+
+pub returns-clause-partition : goal.returns-clause-partition
+returns-clause-partition c =
+    rw (lists_are c) (IsPartition-with_class c.self.inside.lists c.args.n c.self.invariant.partition (new c))

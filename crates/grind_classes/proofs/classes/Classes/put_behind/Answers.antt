@@ -2,7 +2,7 @@ use Rattle.std.specs.Prelude.{◌≡◌, ◌<◌, ℕ, List, All, length}
 use Rattle.std.proofs.Common.{◌∙◌, sym}
 use Rattle.grind_classes.specs.Classes.{members_of, IsIn, AreMergedAt, joined}
 use Rattle.grind_classes.specs.Roots.{repointed}
-use Rattle.grind_classes.proofs.MergeLemmas.{AreJoinable, AreTied-joined, AreMergedAt-swap, members_have_roots, together-joined, active-joined}
+use Rattle.grind_classes.proofs.MergeLemmas.{AreJoinable, IsPartition-joined, AreTied-joined, AreMergedAt-swap, members_have_roots, together-joined, active-joined}
 use Rattle.grind_classes.proofs.classes.Classes.put_behind.Goals as goal
 
 pub repoint-requires : goal.repoint-requires
@@ -45,3 +45,7 @@ pub returns-clause-active : goal.returns-clause-active
 returns-clause-active c = λ x.
     rw (c.in_ok-moved.ensures.ok, ← c.self.view_is)
     (active-joined c.self.inside.lists c.args.kept c.args.gone x (can c))
+
+pub returns-clause-partition : goal.returns-clause-partition
+returns-clause-partition c =
+    rw c.in_ok-moved.ensures.ok (IsPartition-joined c.self.inside.lists c.args.kept c.args.gone (can c))

@@ -1,0 +1,3 @@
+pub mod EdgeLemmas
+pub mod FitLemmas
+pub mod ExactLemmas

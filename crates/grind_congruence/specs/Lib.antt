@@ -1,0 +1,5 @@
+pub mod Derivable
+pub mod Congruence
+pub mod Edges
+pub mod Exact
+pub mod Asserted

@@ -1,0 +1,105 @@
+//! A closure under congruence.
+ghost use Rattle.std.specs.Prelude.{◌≡◌, ℕ, ◌<◌, ◌^◌, ◌++◌, ◌∷◌, [], Some, All, length, slice_get, IfOk, IfSome, IsNone, OnOk, OnErr, IsTrue, ◌↔◌};
+ghost use Rattle.grind_term_graph.specs.declared.node.Node.{Node};
+ghost use Rattle.grind_classes.specs.Classes.{IsActive, AreTogether, AreMergedAt, with_class};
+ghost use Rattle.grind_congruence.specs.Congruence.{AreCongruent, Fits, FitsEvery, IsAtRest};
+ghost use Rattle.grind_congruence.specs.Edges.{AreClassesOf};
+ghost use Rattle.grind_congruence.specs.Exact.{ExactAtRest, FitsLonger};
+ghost use Rattle.grind_congruence.specs.Asserted.{IsJoined};
+
+use crate::edge::{Edge, Found};
+use grind_classes::Classes;
+use grind_outside::{List, Memory};
+use grind_term_graph::{NodeId, TermTable};
+use std::alloc::Global;
+use std::marker::Model;
+
+/// The classes of active nodes, and the equations that made them. Contracts see the member lists and
+/// the equations.
+#[derive(Drop, Debug)]
+pub struct Closure {
+    classes: Classes,
+    edges: List<Edge>,
+}
+
+impl Model for Closure {
+    ghost use Rattle.grind_congruence.specs.Congruence.{Congruence};
+    ghost use Rattle.grind_congruence.specs.Edges.{AreClassesOf};
+
+    ghost Value = { Congruence };
+
+    ghost view = { λ a. record { lists = a.classes; edges = a.edges } };
+
+    ghost invariant = { λ a. AreClassesOf a.classes a.edges };
+}
+
+impl Closure {
+    /// No active nodes and no equations. It fits every table and takes no memory.
+    pub fn new(alloc: Global) -> Closure
+        ensures value { result ≡ record { lists = []; edges = [] } }
+        ensures fits { FitsEvery result.lists }
+    {
+        Closure {
+            classes: Classes::new(alloc),
+            edges: List::new(alloc),
+        }
+    }
+
+    /// Makes a class of one node of the table, whose arguments are active.
+    ///
+    /// # Errors
+    ///
+    /// `Memory` leaves the closure as it was.
+    pub fn activate(&mut self, alloc: Global, terms: &TermTable, n: NodeId) -> Result<(), Memory>
+        requires fits { Fits self.old.lists terms.now.nodes }
+        requires within { n < length terms.now.nodes }
+        requires new { ¬ IsActive self.old.lists n }
+        requires args { (node : Node) → slice_get terms.now.nodes n ≡ Some node → All (IsActive self.old.lists) node.args }
+        ensures ok { OnOk result (self.new.lists ≡ with_class self.old.lists n) }
+        ensures edges { self.new.edges ≡ self.old.edges }
+        ensures fits { Fits self.new.lists terms.now.nodes }
+        ensures err { OnErr result (self.new ≡ self.old) }
+    {
+        self.classes.activate(alloc, n)
+    }
+
+    /// Makes two active nodes equal. Where they are in different classes it joins these and keeps the
+    /// equation, with the nodes in this order; else it changes nothing. `why` is the number of the fact
+    /// that says so.
+    ///
+    /// # Errors
+    ///
+    /// `Memory` leaves the closure as it was.
+    pub fn assert_same(
+        &mut self,
+        alloc: Global,
+        terms: &TermTable,
+        a: NodeId,
+        b: NodeId,
+        why: u32,
+    ) -> Result<(), Memory>
+        requires fits { Fits self.old.lists terms.now.nodes }
+        requires first { IsActive self.old.lists a }
+        requires second { IsActive self.old.lists b }
+        ensures together { OnOk result (AreTogether self.old.lists a b → self.new ≡ self.old) }
+        ensures joined { OnOk result (¬ AreTogether self.old.lists a b → IsJoined self.old self.new a b why) }
+        ensures fits { Fits self.new.lists terms.now.nodes }
+        ensures err { OnErr result (self.new ≡ self.old) }
+    {
+        if self.classes.same(a, b) {
+            return Ok(());
+        }
+        self.edges.push(Edge {
+            left: a,
+            right: b,
+            why,
+        })?;
+        match self.classes.merge(alloc, a, b, why) {
+            Ok(_) => Ok(()),
+            Err(_) => {
+                self.edges.pop();
+                Err(Memory)
+            }
+        }
+    }
+}
