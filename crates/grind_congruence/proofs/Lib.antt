@@ -1,3 +1,4 @@
 pub mod EdgeLemmas
 pub mod FitLemmas
 pub mod ExactLemmas
+pub mod SearchLemmas

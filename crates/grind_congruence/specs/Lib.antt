@@ -3,3 +3,4 @@ pub mod Congruence
 pub mod Edges
 pub mod Exact
 pub mod Asserted
+pub mod Searching

@@ -8,6 +8,7 @@ ghost use Rattle.grind_congruence.specs.Exact.{ExactAtRest, FitsLonger};
 ghost use Rattle.grind_congruence.specs.Asserted.{IsJoined};
 
 use crate::edge::{Edge, Found};
+use crate::search::find_pair;
 use grind_classes::Classes;
 use grind_outside::{List, Memory};
 use grind_term_graph::{NodeId, TermTable};
@@ -60,7 +61,8 @@ impl Closure {
         ensures fits { Fits self.new.lists terms.now.nodes }
         ensures err { OnErr result (self.new ≡ self.old) }
     {
-        self.classes.activate(alloc, n)
+        self.classes.activate(alloc, n)?;
+        Ok(())
     }
 
     /// Makes two active nodes equal. Where they are in different classes it joins these and keeps the
@@ -89,6 +91,7 @@ impl Closure {
         if self.classes.same(a, b) {
             return Ok(());
         }
+        let len = self.edges.len();
         self.edges.push(Edge {
             left: a,
             right: b,
@@ -97,9 +100,77 @@ impl Closure {
         match self.classes.merge(alloc, a, b, why) {
             Ok(_) => Ok(()),
             Err(_) => {
-                self.edges.pop();
+                self.edges.truncate(len);
                 Err(Memory)
             }
         }
     }
+
+    /// Two active nodes that are congruent and in different classes. `None` comes exactly where the
+    /// closure is at rest.
+    ///
+    /// # Errors
+    ///
+    /// `Memory`.
+    pub fn step(&mut self, _alloc: Global, terms: &TermTable) -> Result<Option<Found>, Memory>
+        requires fits { Fits self.old.lists terms.now.nodes }
+        ensures left { IfOk result (λ answer. IfSome answer (λ found. IsActive self.old.lists found.left)) }
+        ensures right { IfOk result (λ answer. IfSome answer (λ found. IsActive self.old.lists found.right)) }
+        ensures congruent { IfOk result (λ answer. IfSome answer
+            (λ found. AreCongruent self.old.lists terms.now.nodes found.left found.right)) }
+        ensures apart { IfOk result (λ answer. IfSome answer
+            (λ found. ¬ AreTogether self.old.lists found.left found.right)) }
+        ensures rest { IfOk result (λ answer. IsNone answer ↔ IsAtRest self.old.lists terms.now.nodes) }
+        ensures same { self.new ≡ self.old }
+    {
+        Ok(find_pair(&self.classes, terms))
+    }
+
+    /// Whether no two active nodes that are congruent are in different classes. It takes no memory.
+    pub fn at_rest(&self, terms: &TermTable) -> bool
+        requires { Fits self.now.lists terms.now.nodes }
+        ensures { IsTrue result ↔ IsAtRest self.now.lists terms.now.nodes }
+    {
+        find_pair(&self.classes, terms).is_none()
+    }
+
+    /// The classes. They are those that the equations make.
+    pub fn classes(&self) -> &Classes
+        ensures value { result.now ≡ self.now.lists }
+        ensures tied { AreClassesOf self.now.lists self.now.edges }
+    {
+        &self.classes
+    }
+
+    /// The equations, in the order in which they came.
+    pub fn edges(&self) -> &[Edge]
+        ensures value { result.now ≡ self.now.edges }
+        ensures bound { length result.now < 2 ^ 32 }
+        ensures tied { AreClassesOf self.now.lists self.now.edges }
+    {
+        self.edges.as_slice()
+    }
+
+    /// The same closure once more.
+    pub fn copy(&self, alloc: Global) -> Result<Closure, Memory>
+        ensures { IfOk result (λ closure. closure ≡ self.now) }
+    {
+        let classes = self.classes.copy(alloc)?;
+        let mut edges = List::new(alloc);
+        edges.extend(self.edges.as_slice())?;
+        Ok(Closure { classes, edges })
+    }
+}
+
+/// What is at rest knows exactly what is derivable: two active nodes are in one class exactly where
+/// their equality follows from the kept equations by congruence over the active nodes.
+pub fn at_rest_is_exact()
+    ensures { ExactAtRest }
+{
+}
+
+/// What fits a table fits each longer one.
+pub fn fits_longer()
+    ensures { FitsLonger }
+{
 }

@@ -5,6 +5,7 @@
 
 pub mod closure;
 pub mod edge;
+mod search;
 
-pub use closure::Closure;
+pub use closure::{Closure, at_rest_is_exact, fits_longer};
 pub use edge::{Edge, Found};
