@@ -2,3 +2,4 @@ pub mod EdgeLemmas
 pub mod FitLemmas
 pub mod ExactLemmas
 pub mod SearchLemmas
+pub mod ReachLemmas

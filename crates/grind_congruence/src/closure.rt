@@ -1,13 +1,14 @@
 //! A closure under congruence.
 ghost use Rattle.std.specs.Prelude.{◌≡◌, ℕ, ◌<◌, ◌^◌, ◌++◌, ◌∷◌, [], Some, All, length, slice_get, IfOk, IfSome, IsNone, OnOk, OnErr, IsTrue, ◌↔◌};
 ghost use Rattle.grind_term_graph.specs.declared.node.Node.{Node};
-ghost use Rattle.grind_classes.specs.Classes.{IsActive, AreTogether, AreMergedAt, with_class};
+ghost use Rattle.grind_classes.specs.Classes.{IsActive, AreTogether, AreApart, with_class};
 ghost use Rattle.grind_congruence.specs.Congruence.{AreCongruent, Fits, FitsEvery, IsAtRest};
-ghost use Rattle.grind_congruence.specs.Edges.{AreClassesOf};
+ghost use Rattle.grind_congruence.specs.Edges.{AreClassesOf, Leads, Joins};
 ghost use Rattle.grind_congruence.specs.Exact.{ExactAtRest, FitsLonger};
 ghost use Rattle.grind_congruence.specs.Asserted.{IsJoined};
 
 use crate::edge::{Edge, Found};
+use crate::path::first_way;
 use crate::search::find_pair;
 use grind_classes::Classes;
 use grind_outside::{List, Memory};
@@ -131,7 +132,10 @@ impl Closure {
         requires { Fits self.now.lists terms.now.nodes }
         ensures { IsTrue result ↔ IsAtRest self.now.lists terms.now.nodes }
     {
-        find_pair(&self.classes, terms).is_none()
+        match find_pair(&self.classes, terms) {
+            Some(_) => false,
+            None => true,
+        }
     }
 
     /// The classes. They are those that the equations make.
@@ -149,6 +153,22 @@ impl Closure {
         ensures tied { AreClassesOf self.now.lists self.now.edges }
     {
         self.edges.as_slice()
+    }
+
+    /// The places of equations that lead from one node of a class to another, in this order, each read
+    /// in either direction and none twice. Where the first `k` equations lead there, each place is below
+    /// `k`.
+    ///
+    /// # Errors
+    ///
+    /// `Memory`.
+    pub fn path(&self, alloc: Global, a: NodeId, b: NodeId) -> Result<List<u32>, Memory>
+        requires { AreTogether self.now.lists a b }
+        ensures leads { IfOk result (λ places. Leads self.now.edges places a b) }
+        ensures apart { IfOk result (λ places. AreApart places) }
+        ensures among { IfOk result (λ places. (k : ℕ) → Joins self.now.edges k a b → All (λ place. place < k) places) }
+    {
+        first_way(alloc, self.edges.as_slice(), a, b)
     }
 
     /// The same closure once more.

@@ -5,6 +5,8 @@
 
 pub mod closure;
 pub mod edge;
+mod path;
+mod reached;
 mod search;
 
 pub use closure::{Closure, at_rest_is_exact, fits_longer};

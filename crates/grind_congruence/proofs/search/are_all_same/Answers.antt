@@ -14,6 +14,13 @@ pub loop-x-preserved : goal.loop-x-preserved
 loop-x-preserved c =
     let rest_is : c.loop-x.rest.now ≡ c.in-Some.x.now ∷ c.in-Some.tail.now = c.in-Some.ensures.cases.0 in
     let others_is : c.loop-x.others.now ≡ c.in-Some-split_first.y.now ∷ c.in-Some-split_first.other_tail.now = c.in-Some-split_first.ensures.cases.0 in
-    let h = c.if-not-same.false in
-    let k = c.if-not-same.ensures in
-    ?
+    let together : AreTogether c.args.classes.now c.in-Some.x.now c.in-Some-split_first.y.now = c.same.ensures.0 c.if-not-same.false in
+    let whole = c.loop-x.invariant.whole in
+    record {
+      whole = (
+        λ rest. whole.0 (rw (rest_is, others_is) (together, rest)),
+        λ all. (rw (rest_is, others_is) at (whole.1 all)).1,
+      );
+      left = All-tail (IsActive c.args.classes.now) c.in-Some.x.now c.in-Some.tail.now (rw rest_is at c.loop-x.invariant.left);
+      right = All-tail (IsActive c.args.classes.now) c.in-Some-split_first.y.now c.in-Some-split_first.other_tail.now (rw others_is at c.loop-x.invariant.right)
+    }
