@@ -50,8 +50,7 @@ Leads-back edges (place ∷ places) a b (edge, mid, stands, passes, rest) =
 -- all edges lead where a way along them leads
 pub Joins-all : (edges : List Edge) (a b : ℕ) → Joins edges (length edges) a b ↔ ((places : List ℕ) × Leads edges places a b)
 Joins-all edges a b =
-    let all : take (length edges) edges ≡ edges = take_all (length edges) edges (omega arith) in
-    (
+    let all : take (length edges) edges ≡ edges = take_all (length edges) edges (omega arith) in (
       λ way. (way.0, subst (λ (es : List Edge). Leads es way.0 a b) all way.1),
       λ way. (way.0, subst (λ (es : List Edge). Leads es way.0 a b) (sym all) way.1),
     )
@@ -111,19 +110,19 @@ pub AreClassesOf-activate : (old new : List (List ℕ)) (edges : List Edge) (n :
     → ((x y : ℕ) → AreTogether new x y ↔ (AreTogether old x y ⊎ ((x ≡ n) × (y ≡ n))))
     → AreClassesOf new edges
 AreClassesOf-activate old new edges n tied classes active together = record {
-    partition = classes;
-    ends = λ k d below. let both = tied.ends k d below in ((active _).1 (inl both.0), (active _).1 (inl both.1));
-    led = λ a b act_a act_b. (
-      λ t. elim ((together a b).0 t) [
-        | inl before ↦ (tied.led a b (active-left old a b before) (active-right old a b before)).0 before
-        | inr own ↦ (Joins-all edges a b).1 ([], own.0 ∙ sym own.1)
-      ],
-      λ joins. let way = (Joins-all edges a b).0 joins in
-      Leads-together new edges way.0 a b classes
-      (All-weaker (HasEndsTogether old) (HasEndsTogether new) (λ edge t. (together edge.left edge.right).1 (inl t)) edges (ends_together old edges tied))
-      act_a way.1,
-    )
-  }
+  partition = classes;
+  ends = λ k d below. let both = tied.ends k d below in ((active _).1 (inl both.0), (active _).1 (inl both.1));
+  led = λ a b act_a act_b. (
+    λ t. elim ((together a b).0 t) [
+      | inl before ↦ (tied.led a b (active-left old a b before) (active-right old a b before)).0 before
+      | inr own ↦ (Joins-all edges a b).1 ([], own.0 ∙ sym own.1)
+    ],
+    λ joins. let way = (Joins-all edges a b).0 joins in
+        Leads-together new edges way.0 a b classes
+        (All-weaker (HasEndsTogether old) (HasEndsTogether new) (λ edge t. (together edge.left edge.right).1 (inl t)) edges (ends_together old edges tied))
+        act_a way.1,
+  );
+}
 
 -- an edge that joins two classes makes the joined classes
 pub AreClassesOf-merge : (old new : List (List ℕ)) (edges : List Edge) (edge : Edge) → AreClassesOf old edges → IsPartition new
@@ -132,37 +131,39 @@ pub AreClassesOf-merge : (old new : List (List ℕ)) (edges : List Edge) (edge :
     → ((x y : ℕ) → AreMergedAt old edge.left edge.right new x y)
     → AreClassesOf new (edges ++ edge ∷ [])
 AreClassesOf-merge old new edges edge tied classes act_left act_right active together = record {
-    partition = classes;
-    ends = All-push (λ (e : Edge). IsActive new e.left × IsActive new e.right) edges edge
+  partition = classes;
+  ends = All-push (λ (e : Edge). IsActive new e.left × IsActive new e.right) edges edge
       (λ k d below. let both = tied.ends k d below in ((active _).1 both.0, (active _).1 both.1))
       ((active edge.left).1 act_left, (active edge.right).1 act_right);
-    led = λ a b act_a act_b. (
-      λ t. (Joins-all (edges ++ edge ∷ []) a b).1 (way a b ((together a b).0 t)),
-      λ joins. let found = (Joins-all (edges ++ edge ∷ []) a b).0 joins in
-      Leads-together new (edges ++ edge ∷ []) found.0 a b classes ends act_a found.1,
-    )
-  }
+  led = λ a b act_a act_b. (
+    λ t. (Joins-all (edges ++ edge ∷ []) a b).1 (way a b ((together a b).0 t)),
+    λ joins. let found = (Joins-all (edges ++ edge ∷ []) a b).0 joins in
+        Leads-together new (edges ++ edge ∷ []) found.0 a b classes ends act_a found.1,
+  );
+}
   where
     old_way : (a b : ℕ) → AreTogether old a b → (places : List ℕ) × Leads (edges ++ edge ∷ []) places a b
     old_way a b t =
         let way = (Joins-all edges a b).0 ((tied.led a b (active-left old a b t) (active-right old a b t)).0 t) in
         (way.0, Leads-more edges (edge ∷ []) way.0 a b way.1)
+
     through : (a x y b : ℕ) → Passes edge x y → AreTogether old a x → AreTogether old y b
         → (places : List ℕ) × Leads (edges ++ edge ∷ []) places a b
     through a x y b passes t u =
         let first = old_way a x t in
-        let second = old_way y b u in
-        (
+        let second = old_way y b u in (
           first.0 ++ length edges ∷ second.0,
           Leads-append (edges ++ edge ∷ []) first.0 (length edges ∷ second.0) a x b first.1
-          (edge, y, slice_get-last edges edge, passes, second.1),
+              (edge, y, slice_get-last edges edge, passes, second.1),
         )
+
     way : (a b : ℕ)
         → (AreTogether old a b ⊎ ((AreTogether old a edge.left × AreTogether old edge.right b) ⊎ (AreTogether old a edge.right × AreTogether old edge.left b)))
         → (places : List ℕ) × Leads (edges ++ edge ∷ []) places a b
     way a b (inl t) = old_way a b t
     way a b (inr (inl both)) = through a edge.left edge.right b (inl (refl, refl)) both.0 both.1
     way a b (inr (inr both)) = through a edge.right edge.left b (inr (refl, refl)) both.0 both.1
+
     ends : All (HasEndsTogether new) (edges ++ edge ∷ [])
     ends = All-push (HasEndsTogether new) edges edge
         (All-weaker (HasEndsTogether old) (HasEndsTogether new) (λ e t. (together e.left e.right).1 (inl t)) edges (ends_together old edges tied))

@@ -68,9 +68,8 @@ given_together lists (edge ∷ edges) a b ends (suc k, within, is) =
 
 -- what is derivable is together, where the given equations are and congruent nodes are
 module _ (nodes : List Node) (pairs : List (ℕ × ℕ)) (Among : ℕ → Type 0) (lists : List (List ℕ)) (classes : IsPartition lists)
-  (known : (a b : ℕ) → Contains pairs (a, b) → AreTogether lists a b) (itself : (a : ℕ) → Among a → AreTogether lists a a)
-  (rest : (a b : ℕ) → Among a → Among b → AreCongruent lists nodes a b → AreTogether lists a b) where
-
+    (known : (a b : ℕ) → Contains pairs (a, b) → AreTogether lists a b) (itself : (a : ℕ) → Among a → AreTogether lists a a)
+    (rest : (a b : ℕ) → Among a → Among b → AreCongruent lists nodes a b → AreTogether lists a b) where
   mutual
     derivable_together : {a b : ℕ} → Derivable nodes pairs Among a b → AreTogether lists a b
     derivable_together (given {a = a} {b = b} has left right) = known a b has
@@ -87,7 +86,7 @@ module _ (nodes : List Node) (pairs : List (ℕ × ℕ)) (Among : ℕ → Type 0
           head = head;
           sort = sort;
           has_args = some;
-          args = row_together row
+          args = row_together row;
         })
 
     row_together : {xs ys : List ℕ} → DerivableRow nodes pairs Among xs ys → AllZip (AreTogether lists) xs ys
@@ -97,12 +96,11 @@ module _ (nodes : List Node) (pairs : List (ℕ × ℕ)) (Among : ℕ → Type 0
 -- the law
 pub exact_at_rest : ExactAtRest
 exact_at_rest closure nodes tied fits rest a b act_a act_b =
-    let ends = ends_together closure.lists closure.edges tied in
-    (
+    let ends = ends_together closure.lists closure.edges tied in (
       λ t.
-        let way = (Joins-all closure.edges a b).0 ((tied.led a b act_a act_b).0 t) in
-        way_derivable nodes closure.lists closure.edges way.0 a b ends act_a way.1,
+          let way = (Joins-all closure.edges a b).0 ((tied.led a b act_a act_b).0 t) in
+          way_derivable nodes closure.lists closure.edges way.0 a b ends act_a way.1,
       λ d. derivable_together nodes (map pair_of closure.edges) (IsActive closure.lists) closure.lists tied.partition
-        (λ x y has. given_together closure.lists closure.edges x y ends has)
-        (λ x active. together-itself closure.lists x active) rest d,
+          (λ x y has. given_together closure.lists closure.edges x y ends has)
+          (λ x active. together-itself closure.lists x active) rest d,
     )

@@ -14,15 +14,15 @@ pub Fits-activate : (old new : List (List ℕ)) (nodes : List Node) (n : ℕ) �
     → ((x : ℕ) → IsActive new x ↔ (IsActive old x ⊎ (x ≡ n))) → n < length nodes
     → ((node : Node) → slice_get nodes n ≡ Some node → All (IsActive old) node.args) → Fits new nodes
 Fits-activate old new nodes n fits active within args = record {
-    within = λ x act. elim ((active x).0 act) [
-        | inl before ↦ fits.within x before
-        | inr own ↦ subst (λ (k : ℕ). k < length nodes) (sym own) within
-      ];
-    args = λ x node act stands. elim ((active x).0 act) [
-        | inl before ↦ kept node (fits.args x node before stands)
-        | inr own ↦ kept node (args node (subst (λ (k : ℕ). slice_get nodes k ≡ Some node) own stands))
-      ]
-  }
+  within = λ x act. elim ((active x).0 act) [
+    | inl before ↦ fits.within x before
+    | inr own ↦ subst (λ (k : ℕ). k < length nodes) (sym own) within
+  ];
+  args = λ x node act stands. elim ((active x).0 act) [
+    | inl before ↦ kept node (fits.args x node before stands)
+    | inr own ↦ kept node (args node (subst (λ (k : ℕ). slice_get nodes k ≡ Some node) own stands))
+  ];
+}
   where
     kept : (node : Node) → All (IsActive old) node.args → All (IsActive new) node.args
     kept node all = All-weaker (IsActive old) (IsActive new) (λ x act. (active x).1 (inl act)) node.args all
@@ -30,10 +30,10 @@ Fits-activate old new nodes n fits active within args = record {
 -- the table sees of the classes only which nodes are active
 pub Fits-active : (old new : List (List ℕ)) (nodes : List Node) → Fits old nodes → ((x : ℕ) → IsActive new x ↔ IsActive old x) → Fits new nodes
 Fits-active old new nodes fits active = record {
-    within = λ x act. fits.within x ((active x).0 act);
-    args = λ x node act stands.
-      All-weaker (IsActive old) (IsActive new) (λ y before. (active y).1 before) node.args (fits.args x node ((active x).0 act) stands)
-  }
+  within = λ x act. fits.within x ((active x).0 act);
+  args = λ x node act stands.
+      All-weaker (IsActive old) (IsActive new) (λ y before. (active y).1 before) node.args (fits.args x node ((active x).0 act) stands);
+}
 
 slice_get-front : (nodes more : List Node) (n : ℕ) → n < length nodes → slice_get (nodes ++ more) n ≡ slice_get nodes n
 slice_get-front [] more n below = absurd (omega arith)
@@ -43,10 +43,10 @@ slice_get-front (node ∷ nodes) more (suc n) below = slice_get-front nodes more
 -- what fits a table fits a longer one
 pub fits_longer_table : FitsLonger
 fits_longer_table closure nodes more fits = record {
-    within = λ n act. let below = fits.within n act in omega (arith, length-append nodes more);
-    args = λ n node act stands.
-      fits.args n node act (sym (slice_get-front nodes more n (fits.within n act)) ∙ stands)
-  }
+  within = λ n act. let below = fits.within n act in omega (arith, length-append nodes more);
+  args = λ n node act stands.
+      fits.args n node act (sym (slice_get-front nodes more n (fits.within n act)) ∙ stands);
+}
 
 -- no classes fit every table
 pub no_active : (n : ℕ) → IsActive [] n → ⊥
@@ -54,6 +54,6 @@ no_active n active = absurd (omega (arith, active.1.1))
 
 pub Fits-nil : FitsEvery []
 Fits-nil nodes = record {
-    within = λ n act. absurd (no_active n act);
-    args = λ n node act stands. absurd (no_active n act)
-  }
+  within = λ n act. absurd (no_active n act);
+  args = λ n node act stands. absurd (no_active n act);
+}

@@ -1,5 +1,5 @@
 -- What a search along edges has reached.
-use Rattle.std.specs.Prelude.{◌≡◌, ℕ, zero, suc, ◌<◌, ◌≤◌, Bool, true, false, cond, ◌||◌, ◌&&◌, nat_eq, IsTrue, List, [], ◌∷◌, ◌++◌, Some, All, Contains, length, slice_get, take, drop, ◌⊎◌, refl}
+use Rattle.std.specs.Prelude.{◌≡◌, ℕ, zero, suc, ◌<◌, ◌≤◌, Bool, true, false, cond, ◌||◌, ◌&&◌, nat_eq, IsTrue, List, [], ◌∷◌, ◌++◌, Some, All, Contains, length, slice_get, take, drop, Option, IfSome, ◌⊎◌, refl}
 use Rattle.std.proofs.Common.{arith, rules, sym, ap, ◌∙◌, subst, inl, inr}
 use Rattle.std.proofs.lemmas.Bool.{cases_lt, false≢true, true≢false}
 use Rattle.std.proofs.lemmas.List.{take-append-drop, take_all, length-take-le}
@@ -49,6 +49,7 @@ reaches-led edges reached (place ∷ places) a b closed here (edge, mid, stands,
   where
     alike : reaches reached edge.left ≡ reaches reached edge.right
     alike = All-at (λ (e : Edge). reaches reached e.left ≡ reaches reached e.right) edges place edge closed stands
+
     over : Passes edge a mid → IsTrue (reaches reached mid)
     over (inl is) = ap (reaches reached) (sym is.1) ∙ sym alike ∙ ap (reaches reached) is.0 ∙ here
     over (inr is) = ap (reaches reached) (sym is.1) ∙ alike ∙ ap (reaches reached) is.0 ∙ here
@@ -73,11 +74,11 @@ start_of a = record { node = a; way = [] }
 -- a search starts from its node
 pub IsSearch-start : (edges : List Edge) (a : ℕ) → IsSearch edges a (start_of a ∷ [])
 IsSearch-start edges a = record {
-    start = or_left (nat_eq a a) false (nat_eq-refl a);
-    ways = All-cons (IsWay edges (start_of a ∷ []) a) (start_of a) []
+  start = or_left (nat_eq a a) false (nat_eq-refl a);
+  ways = All-cons (IsWay edges (start_of a ∷ []) a) (start_of a) []
       (record { leads = refl; apart = tt; ends = λ place has. absurd (omega (arith, has.1)) })
-      (λ k d below. absurd (omega arith))
-  }
+      (λ k d below. absurd (omega arith));
+}
 
 -- one more place that does not stand there yet
 AreApart-push : (places : List ℕ) (place : ℕ) → AreApart places → (Contains places place → ⊥) → AreApart (places ++ place ∷ [])
@@ -118,10 +119,10 @@ HasEndsReached-more edges reached more place ends edge stands =
 IsWay-more : (edges : List Edge) (reached more : List Reached) (a : ℕ) (entry : Reached) → IsWay edges reached a entry
     → IsWay edges (reached ++ more) a entry
 IsWay-more edges reached more a entry way = record {
-    leads = way.leads;
-    apart = way.apart;
-    ends = λ place has. HasEndsReached-more edges reached more place (way.ends place has)
-  }
+  leads = way.leads;
+  apart = way.apart;
+  ends = λ place has. HasEndsReached-more edges reached more place (way.ends place has);
+}
 
 -- a list of one item has only this
 the_only : (x y : ℕ) → Contains (x ∷ []) y → x ≡ y
@@ -130,8 +131,7 @@ the_only x y (suc k, within, is) = absurd (omega (arith, within))
 
 -- what a step keeps
 module _ (edges : List Edge) (a : ℕ) (before : List Reached) (place old new : ℕ) (way : List ℕ) (searched : IsSearch edges a before)
-  (step : IsStep edges before place old new) (has : Contains before (entry_of old way)) where
-
+    (step : IsStep edges before place old new) (has : Contains before (entry_of old way)) where
   abbrev after : List Reached
   after = before ++ entry_of new (way ++ place ∷ []) ∷ []
 
@@ -155,26 +155,26 @@ module _ (edges : List Edge) (a : ℕ) (before : List Reached) (place old new : 
 
   ends_of_way : (k : ℕ) → Contains (way ++ place ∷ []) k → HasEndsReached edges after k
   ends_of_way k stands = elim (Contains-append_cases way (place ∷ []) k stands) [
-      | inl early ↦ (HasEndsReached-more edges before (entry_of new (way ++ place ∷ []) ∷ []) k (kept.ends k early))
-      | inr late ↦ subst (HasEndsReached edges after) (the_only place k late) ends_of_step
-    ]
+    | inl early ↦ (HasEndsReached-more edges before (entry_of new (way ++ place ∷ []) ∷ []) k (kept.ends k early))
+    | inr late ↦ subst (HasEndsReached edges after) (the_only place k late) ends_of_step
+  ]
 
   new_way : IsWay edges after a (entry_of new (way ++ place ∷ []))
   new_way = record {
-      leads = Leads-append edges way (place ∷ []) a old new kept.leads (step.0, new, step.1, step.2, refl);
-      apart = AreApart-push way place kept.apart unused;
-      ends = ends_of_way
-    }
+    leads = Leads-append edges way (place ∷ []) a old new kept.leads (step.0, new, step.1, step.2, refl);
+    apart = AreApart-push way place kept.apart unused;
+    ends = ends_of_way;
+  }
 
   IsSearch-step : IsSearch edges a after
   IsSearch-step = record {
-      start = (reaches-more before (entry_of new (way ++ place ∷ []) ∷ []) a searched.start);
-      ways = (All-push (IsWay edges (before ++ entry_of new (way ++ place ∷ []) ∷ []) a) before
+    start = (reaches-more before (entry_of new (way ++ place ∷ []) ∷ []) a searched.start);
+    ways = (All-push (IsWay edges (before ++ entry_of new (way ++ place ∷ []) ∷ []) a) before
         (entry_of new (way ++ place ∷ []))
         (All-weaker (IsWay edges before a) (IsWay edges (before ++ entry_of new (way ++ place ∷ []) ∷ []) a)
         (λ e w. IsWay-more edges before (entry_of new (way ++ place ∷ []) ∷ []) a e w) before searched.ways)
-        new_way)
-    }
+        new_way);
+  }
 
 -- a search that takes a step
 pub IsSearch-taken : (edges : List Edge) (a : ℕ) (before after : List Reached) (place old new : ℕ) → IsSearch edges a before
@@ -250,6 +250,7 @@ open_count-taken edges before after place old new (edge, stands, passes, from, o
   where
     more : (n : ℕ) → IsTrue (reaches before n) → IsTrue (reaches after n)
     more n e = rw is (reaches-more before (entry_of new (way ++ place ∷ []) ∷ []) n e)
+
     last : IsTrue (reaches after new)
     last = rw is (reaches-last before (entry_of new (way ++ place ∷ [])))
 
@@ -269,17 +270,30 @@ Leads-below edges (place ∷ places) a b (edge, mid, stands, passes, rest) =
 pub first_way_is : (edges : List Edge) (k a b : ℕ) (places : List ℕ) → k ≤ length edges → ((j : ℕ) → j < k → NoWay (take j edges) a b)
     → Leads (take k edges) places a b → AreApart places → IsFirstWay edges a b places
 first_way_is edges k a b places within none leads apart = record {
-    leads = Leads-take edges k places a b leads;
-    apart = apart;
-    among = λ j joins. elim (cases_lt j k) [
-        | inl less ↦ absurd (none j less joins.0 joins.1)
-        | inr more ↦ All-weaker (λ p. p < length (take k edges)) (λ p. p < j)
-            (λ p below. omega (arith, below, length-take-le k edges within)) places (Leads-below (take k edges) places a b leads)
-      ]
-  }
+  leads = Leads-take edges k places a b leads;
+  apart = apart;
+  among = λ j joins. elim (cases_lt j k) [
+    | inl less ↦ absurd (none j less joins.0 joins.1)
+    | inr more ↦ All-weaker (λ p. p < length (take k edges)) (λ p. p < j)
+        (λ p below. omega (arith, below, length-take-le k edges within)) places (Leads-below (take k edges) places a b leads)
+  ];
+}
 
 -- some number of edges leads there, if all do
 pub some_way : (edges : List Edge) (n a b : ℕ) → length edges < n → HasWay edges a b → ((j : ℕ) → j < n → NoWay (take j edges) a b) → ⊥
 some_way edges n a b less way none =
     none (length edges) less way.0
     (subst (λ (es : List Edge). Leads es way.0 a b) (sym (take_all (length edges) edges (omega arith))) way.1)
+
+-- what holds of the value in an option holds of that value
+pub at_some : {X : Type 0} (P : X → Type 0) (found : Option X) (x : X) → found ≡ Some x → IfSome found P → P x
+at_some P found x e holds = subst (λ (o : Option _). IfSome o P) e holds
+
+-- a node that is not the first was reached later
+pub reaches-later : (entry : Reached) (reached : List Reached) (n : ℕ) → nat_eq entry.node n ≡ false
+    → IsTrue (reaches (entry ∷ reached) n) → IsTrue (reaches reached n)
+reaches-later entry reached n other e = later (nat_eq entry.node n) (reaches reached n) other e
+  where
+    later : (a b : Bool) → a ≡ false → (a || b) ≡ true → b ≡ true
+    later true b out e = absurd (false≢true (sym out))
+    later false b out e = e

@@ -13,16 +13,16 @@ use Rattle.grind_congruence.specs.Searching.{IsPair, HasNoPartner}
 pub cases_together : (lists : List (List ℕ)) (a b : ℕ) → IsPartition lists → IsActive lists a → IsActive lists b
     → AreTogether lists a b ⊎ (AreTogether lists a b → ⊥)
 cases_together lists a b classes left right = elim (cases_eq left.0 right.0) [
-    | inl is ↦ inl (right.0, subst (λ (r : ℕ). IsIn lists r a) is left.1, right.1)
-    | inr other ↦ inr (λ t. other (classes.in_one left.0 t.0 a left.1 t.1 ∙ classes.in_one t.0 right.0 b t.2 right.1))
-  ]
+  | inl is ↦ inl (right.0, subst (λ (r : ℕ). IsIn lists r a) is left.1, right.1)
+  | inr other ↦ inr (λ t. other (classes.in_one left.0 t.0 a left.1 t.1 ∙ classes.in_one t.0 right.0 b t.2 right.1))
+]
 
 -- a node below the next one is below this one or is it
 pub below_next : (P : ℕ → Type 0) (i : ℕ) → ((k : ℕ) → k < i → P k) → P i → (k : ℕ) → k < i + 1 → P k
 below_next P i before here k below = elim (cases_eq k i) [
-    | inl is ↦ subst P (sym is) here
-    | inr other ↦ before k (omega arith)
-  ]
+  | inl is ↦ subst P (sym is) here
+  | inr other ↦ before k (omega arith)
+]
 
 -- where no node of the table makes a pair with a node, no node does
 pub no_partner : (lists : List (List ℕ)) (nodes : List Node) (a n : ℕ) → Fits lists nodes → n ≡ length nodes

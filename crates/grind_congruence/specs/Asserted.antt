@@ -7,7 +7,7 @@ use Rattle.grind_congruence.specs.Congruence.{Congruence}
 pub record IsJoined (old new : Congruence) (a b why : ℕ) : Type 0 where
   -- the lists are those of a merge of the two classes
   pub merged : (ra rb : ℕ) → IsIn old.lists ra a → IsIn old.lists rb b
-    → (root : ℕ) × (moved : ℕ) × IsMerge old.lists ra rb new.lists root moved
+      → (root : ℕ) × (moved : ℕ) × IsMerge old.lists ra rb new.lists root moved
   -- who are together then
   pub together : (x y : ℕ) → AreMergedAt old.lists a b new.lists x y
   -- the active nodes are the same

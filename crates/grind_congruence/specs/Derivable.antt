@@ -16,11 +16,12 @@ mutual
     transitive : {a b c : ℕ} → Derivable nodes pairs Among a b → Derivable nodes pairs Among b c → Derivable nodes pairs Among a c
     -- two nodes of one head and one sort with arguments, which are equal one by one
     congruent : {a b : ℕ} (left right : Node) → Among a → Among b → slice_get nodes a ≡ Some left → slice_get nodes b ≡ Some right
-      → left.head ≡ right.head → left.sort ≡ right.sort → ¬ (left.args ≡ []) → DerivableRow nodes pairs Among left.args right.args
-      → Derivable nodes pairs Among a b
+        → left.head ≡ right.head → left.sort ≡ right.sort → ¬ (left.args ≡ []) → DerivableRow nodes pairs Among left.args right.args
+        → Derivable nodes pairs Among a b
+
   pub data DerivableRow (nodes : List Node) (pairs : List (ℕ × ℕ)) (Among : ℕ → Type 0) : List ℕ → List ℕ → Type 0 where
     -- no items
     no_more : DerivableRow nodes pairs Among [] []
     -- the first items, and the others
     and_more : {a b : ℕ} {xs ys : List ℕ} → Derivable nodes pairs Among a b → DerivableRow nodes pairs Among xs ys
-      → DerivableRow nodes pairs Among (a ∷ xs) (b ∷ ys)
+        → DerivableRow nodes pairs Among (a ∷ xs) (b ∷ ys)

@@ -186,11 +186,9 @@ impl Closure {
 /// their equality follows from the kept equations by congruence over the active nodes.
 pub fn at_rest_is_exact()
     ensures { ExactAtRest }
-{
-}
+{}
 
 /// What fits a table fits each longer one.
 pub fn fits_longer()
     ensures { FitsLonger }
-{
-}
+{}

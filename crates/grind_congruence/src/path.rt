@@ -20,7 +20,12 @@ struct Step {
 }
 
 // A way along the first edges that lead from a node to another: the fewest edges that do.
-pub(crate) fn first_way(alloc: Global, edges: &[Edge], a: NodeId, b: NodeId) -> Result<List<u32>, Memory>
+pub(crate) fn first_way(
+    alloc: Global,
+    edges: &[Edge],
+    a: NodeId,
+    b: NodeId,
+) -> Result<List<u32>, Memory>
     requires way { HasWay edges.now a b }
     requires count { length edges.now < 2 ^ 32 }
     ensures { IfOk result (λ places. IsFirstWay edges.now a b places) }

@@ -5,9 +5,9 @@ use Rattle.grind_congruence.proofs.reached.way_to.Given as goal
 
 abbrev pub invariant-loop-entry : goal.invariant-loop-entry
 invariant-loop-entry l = record {
-    later : IsTrue (reaches l.rest l.n);
-    among : (entry : Reached) → Contains l.rest entry → Contains l.fn.reached entry
-  }
+  later : IsTrue (reaches l.rest l.n);
+  among : (entry : Reached) → Contains l.rest entry → Contains l.fn.reached entry;
+}
 
 abbrev pub decreases-loop-entry : goal.decreases-loop-entry
 decreases-loop-entry l = length l.rest

@@ -22,5 +22,5 @@ loop-x-preserved c =
         λ all. (rw (rest_is, others_is) at (whole.1 all)).1,
       );
       left = All-tail (IsActive c.args.classes.now) c.in-Some.x.now c.in-Some.tail.now (rw rest_is at c.loop-x.invariant.left);
-      right = All-tail (IsActive c.args.classes.now) c.in-Some-split_first.y.now c.in-Some-split_first.other_tail.now (rw others_is at c.loop-x.invariant.right)
+      right = All-tail (IsActive c.args.classes.now) c.in-Some-split_first.y.now c.in-Some-split_first.other_tail.now (rw others_is at c.loop-x.invariant.right);
     }

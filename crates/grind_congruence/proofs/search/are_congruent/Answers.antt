@@ -13,4 +13,3 @@ are_all_same-requires-clause-left c =
 pub are_all_same-requires-clause-right : goal.are_all_same-requires-clause-right
 are_all_same-requires-clause-right c =
     rw c.as_slice-3.ensures.value (c.requires.fits.args c.args.b c.node-right.result.now c.requires.second c.node-right.ensures.value)
-

@@ -12,6 +12,6 @@ loop-number-preserved c =
 pub returns-clause-none : goal.returns-clause-none
 returns-clause-none c = (
   λ _. rest_of_none c.args.classes.now c.args.terms.now.nodes (length c.args.terms.now.nodes) c.requires.partition c.requires.fits refl
-  (λ a less. c.loop-number.invariant a (omega (arith, less))),
+      (λ a less. c.loop-number.invariant a (omega (arith, less))),
   λ _. refl,
 )

@@ -45,12 +45,12 @@ returns-in-Ok-clause-joined c = λ apart.
     let edges_are : c.self.inside.edges ≡ c.args.self.now.edges = ap (λ (t : Congruence). t.edges) c.self.view_is in
     record {
       merged = λ ra rb in_a in_b.
-        let left : IsIn c.self.inside.classes ra c.args.a = rw lists_are in_a in
-        let right : IsIn c.self.inside.classes rb c.args.b = rw lists_are in_b in
-        (c.in-Ok.field-0.root, c.in-Ok.field-0.moved, rw (← lists_are) (c.in-Ok.ensures.lists ra rb left right));
+          let left : IsIn c.self.inside.classes ra c.args.a = rw lists_are in_a in
+          let right : IsIn c.self.inside.classes rb c.args.b = rw lists_are in_b in
+          (c.in-Ok.field-0.root, c.in-Ok.field-0.moved, rw (← lists_are) (c.in-Ok.ensures.lists ra rb left right));
       together = rw (← lists_are) c.in-Ok.ensures.together;
       active = rw (← lists_are) c.in-Ok.ensures.active;
-      edges = rw (← edges_are) c.in_ok-push.ensures.ok
+      edges = rw (← edges_are) c.in_ok-push.ensures.ok;
     }
 
 pub returns-in-Ok-clause-fits : goal.returns-in-Ok-clause-fits
