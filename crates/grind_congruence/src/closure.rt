@@ -1,5 +1,5 @@
 //! A closure under congruence.
-ghost use Rattle.std.specs.Prelude.{◌≡◌, ℕ, ◌<◌, ◌^◌, ◌++◌, ◌∷◌, [], Some, All, length, slice_get, IfOk, IfSome, IsNone, OnOk, OnErr, IsTrue, ◌↔◌};
+ghost use Rattle.std.specs.Prelude.{◌≡◌, ℕ, ◌<◌, ◌^◌, ◌++◌, ◌∷◌, [], Some, All, length, slice_get, IfOk, IfSome, IsNone, OnOk, OnErr, IsTrue, ◌↔◌, ◌⊎◌};
 ghost use Rattle.grind_term_graph.specs.declared.node.Node.{Node};
 ghost use Rattle.grind_classes.specs.Classes.{IsActive, AreTogether, AreApart, with_class};
 ghost use Rattle.grind_congruence.specs.Congruence.{AreCongruent, Fits, FitsEvery, IsAtRest};
@@ -58,6 +58,9 @@ impl Closure {
         requires new { ¬ IsActive self.old.lists n }
         requires args { (node : Node) → slice_get terms.now.nodes n ≡ Some node → All (IsActive self.old.lists) node.args }
         ensures ok { OnOk result (self.new.lists ≡ with_class self.old.lists n) }
+        ensures active { OnOk result ((x : ℕ) → IsActive self.new.lists x ↔ (IsActive self.old.lists x ⊎ (x ≡ n))) }
+        ensures together { OnOk result ((x y : ℕ) → AreTogether self.new.lists x y
+            ↔ (AreTogether self.old.lists x y ⊎ ((x ≡ n) × (y ≡ n)))) }
         ensures edges { self.new.edges ≡ self.old.edges }
         ensures fits { Fits self.new.lists terms.now.nodes }
         ensures err { OnErr result (self.new ≡ self.old) }

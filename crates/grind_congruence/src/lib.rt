@@ -11,3 +11,6 @@ mod search;
 
 pub use closure::{Closure, at_rest_is_exact, fits_longer};
 pub use edge::{Edge, Found};
+
+#[cfg(test)]
+mod tests;

@@ -16,3 +16,13 @@ returns-clause-fits c =
     let fits : Fits c.self.inside.classes c.args.terms.now.nodes = rw lists_are c.requires.fits in
     Fits-activate c.self.inside.classes c.activate.new.self c.args.terms.now.nodes c.args.n fits
     c.in_ok-activate.ensures.active c.requires.within (rw lists_are c.requires.args)
+
+pub returns-clause-active : goal.returns-clause-active
+returns-clause-active c =
+    let lists_are : c.self.inside.classes ≡ c.args.self.now.lists = ap (λ (t : Congruence). t.lists) c.self.view_is in
+    rw (← lists_are) c.in_ok-activate.ensures.active
+
+pub returns-clause-together : goal.returns-clause-together
+returns-clause-together c =
+    let lists_are : c.self.inside.classes ≡ c.args.self.now.lists = ap (λ (t : Congruence). t.lists) c.self.view_is in
+    rw (← lists_are) c.in_ok-activate.ensures.together
