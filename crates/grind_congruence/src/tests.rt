@@ -132,7 +132,12 @@ fn settled(alloc: Global, closure: &mut Closure, terms: &TermTable) -> Result<()
 }
 
 // The way from a node to another, if they are together.
-fn way(alloc: Global, closure: &Closure, a: NodeId, b: NodeId) -> Result<Option<List<u32>>, Memory> {
+fn way(
+    alloc: Global,
+    closure: &Closure,
+    a: NodeId,
+    b: NodeId,
+) -> Result<Option<List<u32>>, Memory> {
     let classes = closure.classes();
     if !classes.is_active(a) || !classes.is_active(b) || !classes.same(a, b) {
         return Ok(None);
