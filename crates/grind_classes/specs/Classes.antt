@@ -1,6 +1,6 @@
 -- Classes of nodes. They are seen as one list of lists: item r has the members of the class whose root is r, and is
 -- empty where r is no root.
-use Rattle.std.specs.Prelude.{◌≡◌, ◌≢◌, ℕ, ◌+◌, ◌-◌, ◌<◌, ◌≤◌, List, [], ◌∷◌, ◌++◌, Contains, length, slice_index_or, slice_set, replicate, ◌⊎◌, ◌↔◌}
+use Rattle.std.specs.Prelude.{◌≡◌, ℕ, ◌+◌, ◌-◌, ◌<◌, ◌≤◌, List, [], ◌∷◌, ◌++◌, Contains, length, slice_index_or, slice_set, replicate, ◌⊎◌, ◌↔◌}
 
 -- the members of the class with root r, the root first: none past the end
 abbrev pub members_of : List (List ℕ) → ℕ → List ℕ

@@ -1,13 +1,13 @@
 -- What a closure at rest knows is what is derivable.
-use Rattle.std.specs.Prelude.{◌≡◌, ℕ, zero, suc, List, [], ◌∷◌, Some, All, Contains, length, slice_get, map, ◌⊎◌, ◌↔◌, refl}
+use Rattle.std.specs.Prelude.{◌≡◌, ℕ, zero, suc, List, [], ◌∷◌, Some, All, Contains, slice_get, map}
 use Rattle.std.specs.List.{AllZip}
-use Rattle.std.proofs.Common.{arith, sym, ap, ◌∙◌, subst, inl, inr, get_or}
+use Rattle.std.proofs.Common.{arith, ap, subst, inl, inr}
 use Rattle.std.proofs.lemmas.List.Elements.{All-head, All-tail}
 use Rattle.grind_term_graph.specs.declared.node.Node.{Node}
 use Rattle.grind_classes.specs.Classes.{IsIn, IsActive, AreTogether, IsPartition}
 use Rattle.grind_congruence.specs.declared.edge.Edge.{Edge}
-use Rattle.grind_congruence.specs.Congruence.{Congruence, AreCongruent, Fits, IsAtRest}
-use Rattle.grind_congruence.specs.Edges.{Passes, Leads, AreClassesOf}
+use Rattle.grind_congruence.specs.Congruence.{AreCongruent}
+use Rattle.grind_congruence.specs.Edges.{Passes, Leads}
 use Rattle.grind_congruence.specs.Derivable.{Derivable, DerivableRow}
 use Rattle.grind_congruence.specs.Derivable.Derivable.{given, reflexive, symmetric, transitive, congruent}
 use Rattle.grind_congruence.specs.Derivable.DerivableRow.{no_more, and_more}

@@ -1,12 +1,11 @@
 -- Classes that fit a table.
 use Rattle.std.specs.Prelude.{◌≡◌, ℕ, zero, suc, ◌<◌, List, [], ◌∷◌, ◌++◌, Some, All, length, slice_get, ◌⊎◌, ◌↔◌, refl}
-use Rattle.std.proofs.Common.{arith, sym, ap, ◌∙◌, subst, inl, inr}
+use Rattle.std.proofs.Common.{arith, sym, ◌∙◌, subst, inl, inr}
 use Rattle.std.proofs.lemmas.List.{length-append}
 use Rattle.std.proofs.lemmas.List.Elements.{All-weaker}
 use Rattle.grind_term_graph.specs.declared.node.Node.{Node}
-use Rattle.grind_classes.specs.Classes.{IsActive, IsPartition, AreTogether}
-use Rattle.grind_congruence.specs.declared.edge.Edge.{Edge}
-use Rattle.grind_congruence.specs.Congruence.{Congruence, Fits, FitsEvery}
+use Rattle.grind_classes.specs.Classes.{IsActive}
+use Rattle.grind_congruence.specs.Congruence.{Fits, FitsEvery}
 use Rattle.grind_congruence.specs.Exact.{FitsLonger}
 
 -- a node of the table may become active once its arguments are

@@ -1,14 +1,14 @@
 -- What a search along edges has reached.
-use Rattle.std.specs.Prelude.{◌≡◌, ℕ, zero, suc, ◌<◌, ◌≤◌, Bool, true, false, cond, ◌||◌, ◌&&◌, nat_eq, IsTrue, List, [], ◌∷◌, ◌++◌, Some, All, Contains, length, slice_get, take, drop, Option, IfSome, ◌⊎◌, refl}
+use Rattle.std.specs.Prelude.{◌≡◌, ℕ, zero, suc, ◌<◌, ◌≤◌, Bool, true, false, cond, ◌||◌, ◌&&◌, nat_eq, IsTrue, List, [], ◌∷◌, ◌++◌, Some, All, Contains, length, slice_get, take, drop, Option, IfSome, refl}
 use Rattle.std.proofs.Common.{arith, rules, sym, ap, ◌∙◌, subst, inl, inr}
-use Rattle.std.proofs.lemmas.Bool.{cases_lt, false≢true, true≢false}
+use Rattle.std.proofs.lemmas.Bool.{cases_lt, false≢true}
 use Rattle.std.proofs.lemmas.List.{take-append-drop, take_all, length-take-le}
-use Rattle.std.proofs.lemmas.List.Elements.{All-push, All-weaker, All-cons, All-contains, Contains-append_cases, Contains-append_left}
+use Rattle.std.proofs.lemmas.List.Elements.{All-push, All-weaker, All-cons, All-contains, Contains-append_cases}
 use Rattle.std.proofs.lemmas.Option.{slice_get_within, same_Some}
 use Rattle.grind_classes.specs.Classes.{AreApart}
 use Rattle.grind_congruence.specs.declared.edge.Edge.{Edge}
 use Rattle.grind_congruence.specs.declared.reached.Reached.{Reached}
-use Rattle.grind_congruence.specs.Edges.{Passes, Leads, Joins}
+use Rattle.grind_congruence.specs.Edges.{Passes, Leads}
 use Rattle.grind_congruence.specs.Reaching.{reaches, HasEndsReached, IsWay, IsSearch, IsClosed, IsStep, open_count}
 use Rattle.grind_congruence.specs.Ways.{HasWay, NoWay, IsFirstWay, IsTaken}
 use Rattle.grind_congruence.proofs.EdgeLemmas.{Leads-more, Leads-append, All-at}

@@ -1,12 +1,10 @@
 -- What the search for a pair finds.
-use Rattle.std.specs.Prelude.{◌≡◌, ℕ, ◌+◌, ◌<◌, ◌≤◌, List, [], ◌∷◌, Option, Some, None, All, length, slice_get, IsNone, IfSome, ◌⊎◌, ◌↔◌, refl}
-use Rattle.std.specs.List.{AllZip}
-use Rattle.std.proofs.Common.{arith, sym, ap, ◌∙◌, subst, inl, inr}
-use Rattle.std.proofs.lemmas.Bool.{cases_eq, cases_lt, false≢true}
+use Rattle.std.specs.Prelude.{◌≡◌, ℕ, ◌+◌, ◌<◌, List, length, ◌⊎◌}
+use Rattle.std.proofs.Common.{arith, sym, ◌∙◌, subst, inl, inr}
+use Rattle.std.proofs.lemmas.Bool.{cases_eq}
 use Rattle.grind_term_graph.specs.declared.node.Node.{Node}
 use Rattle.grind_classes.specs.Classes.{IsIn, IsActive, AreTogether, IsPartition}
-use Rattle.grind_congruence.specs.declared.edge.Found.{Found}
-use Rattle.grind_congruence.specs.Congruence.{AreCongruent, Fits, IsAtRest}
+use Rattle.grind_congruence.specs.Congruence.{Fits, IsAtRest}
 use Rattle.grind_congruence.specs.Searching.{IsPair, HasNoPartner}
 
 -- two active nodes are together, or they are not

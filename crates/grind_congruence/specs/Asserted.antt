@@ -1,5 +1,5 @@
 -- What an equation between two classes changes.
-use Rattle.std.specs.Prelude.{◌≡◌, ℕ, List, [], ◌∷◌, ◌++◌, ◌↔◌}
+use Rattle.std.specs.Prelude.{◌≡◌, ℕ, [], ◌∷◌, ◌++◌, ◌↔◌}
 use Rattle.grind_classes.specs.Classes.{IsIn, IsActive, IsMerge, AreMergedAt}
 use Rattle.grind_congruence.specs.Congruence.{Congruence}
 

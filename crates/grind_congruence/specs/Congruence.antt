@@ -1,5 +1,5 @@
 -- What a contract sees of a closure under congruence, and when it is at rest.
-use Rattle.std.specs.Prelude.{◌≡◌, ℕ, ◌<◌, List, [], ◌∷◌, Some, All, length, slice_get}
+use Rattle.std.specs.Prelude.{◌≡◌, ℕ, ◌<◌, List, [], Some, All, length, slice_get}
 use Rattle.std.specs.List.{AllZip}
 use Rattle.grind_term_graph.specs.declared.node.Node.{Node}
 use Rattle.grind_classes.specs.Classes.{IsActive, AreTogether}

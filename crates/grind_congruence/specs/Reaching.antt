@@ -1,5 +1,5 @@
 -- What a search along edges keeps.
-use Rattle.std.specs.Prelude.{◌≡◌, ℕ, suc, zero, ◌<◌, Bool, true, false, cond, ◌||◌, ◌&&◌, nat_eq, IsTrue, List, [], ◌∷◌, Some, All, Contains, slice_get, ◌≢◌}
+use Rattle.std.specs.Prelude.{◌≡◌, ℕ, suc, Bool, false, cond, ◌||◌, ◌&&◌, nat_eq, IsTrue, List, [], ◌∷◌, Some, All, Contains, slice_get}
 use Rattle.grind_classes.specs.Classes.{AreApart}
 use Rattle.grind_congruence.specs.declared.edge.Edge.{Edge}
 use Rattle.grind_congruence.specs.declared.reached.Reached.{Reached}

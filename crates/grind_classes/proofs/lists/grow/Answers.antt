@@ -1,7 +1,6 @@
-use Rattle.std.specs.Prelude.{◌≡◌, [], ◌∷◌, ◌++◌, length, take, List, ℕ}
+use Rattle.std.specs.Prelude.{◌≡◌, [], ◌∷◌, ◌++◌, length, List, ℕ}
 use Rattle.std.proofs.Common.{arith, ◌∙◌, ap, refl}
 use Rattle.std.proofs.lemmas.List.{take-append-le, length-append}
-use Rattle.grind_classes.specs.Classes.{long_enough}
 use Rattle.grind_classes.proofs.ListLemmas.{long_enough-push}
 use Rattle.grind_classes.proofs.lists.grow.Goals as goal
 

@@ -1,8 +1,7 @@
-use Rattle.std.specs.Prelude.{◌≡◌, ℕ, List, [], Some, slice_get, set}
+use Rattle.std.specs.Prelude.{◌≡◌, [], Some, slice_get, set}
 use Rattle.std.proofs.Common.{◌∙◌, sym}
 use Rattle.std.proofs.lemmas.List.{get_or-set_other}
 use Rattle.std.proofs.lemmas.Option.{get_or_from_slice_get}
-use Rattle.grind_classes.specs.Classes.{members_of}
 use Rattle.grind_classes.proofs.lists.join_lists.Goals as goal
 
 pub returns-clause-moved : goal.returns-clause-moved

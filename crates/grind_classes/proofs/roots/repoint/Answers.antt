@@ -1,8 +1,7 @@
-use Rattle.std.specs.Prelude.{◌≡◌, ◌∷◌, ◌<◌, All, Some, Option, ℕ, List, length, set}
-use Rattle.std.proofs.Common.{◌∙◌, ap, refl}
+use Rattle.std.specs.Prelude.{◌≡◌, ◌∷◌, ◌<◌, All, Some, length, set}
+use Rattle.std.proofs.Common.{refl}
 use Rattle.std.proofs.lemmas.List.{length-set}
 use Rattle.std.proofs.lemmas.List.Elements.{All-tail}
-use Rattle.grind_classes.specs.Roots.{repointed}
 use Rattle.grind_classes.proofs.roots.repoint.Goals as goal
 
 pub loop-n-preserved : goal.loop-n-preserved

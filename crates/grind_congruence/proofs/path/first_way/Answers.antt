@@ -1,4 +1,4 @@
-use Rattle.std.specs.Prelude.{◌≡◌, ℕ, List, take}
+use Rattle.std.specs.Prelude.{ℕ, List}
 use Rattle.std.proofs.Common.{arith}
 use Rattle.grind_classes.specs.Classes.{AreApart}
 use Rattle.grind_congruence.specs.Edges.{Leads}

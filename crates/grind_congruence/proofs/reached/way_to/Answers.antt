@@ -1,5 +1,5 @@
-use Rattle.std.specs.Prelude.{◌≡◌, ◌∷◌, ◌<◌, suc, List, Contains, IsTrue, length}
-use Rattle.std.proofs.Common.{sym, ap, ◌∙◌, arith}
+use Rattle.std.specs.Prelude.{◌≡◌, ◌∷◌, suc, List, Contains, IsTrue}
+use Rattle.std.proofs.Common.{sym, ◌∙◌, arith}
 use Rattle.grind_congruence.specs.declared.reached.Reached.{Reached}
 use Rattle.grind_congruence.specs.Reaching.{reaches}
 use Rattle.grind_congruence.proofs.ReachLemmas.{reaches-later}

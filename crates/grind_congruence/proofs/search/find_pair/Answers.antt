@@ -1,5 +1,5 @@
 use Rattle.grind_congruence.specs.Searching.{HasNoPartner}
-use Rattle.std.specs.Prelude.{ℕ, length, refl}
+use Rattle.std.specs.Prelude.{length, refl}
 use Rattle.std.proofs.Common.{arith}
 use Rattle.grind_congruence.proofs.SearchLemmas.{below_next, rest_of_none}
 use Rattle.grind_congruence.proofs.search.find_pair.Goals as goal

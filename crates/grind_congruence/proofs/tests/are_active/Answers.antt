@@ -1,4 +1,4 @@
-use Rattle.std.specs.Prelude.{◌≡◌, ◌∷◌, All}
+use Rattle.std.specs.Prelude.{◌≡◌, ◌∷◌}
 use Rattle.std.proofs.lemmas.List.Elements.{All-cons}
 use Rattle.grind_classes.specs.Classes.{IsActive}
 use Rattle.grind_congruence.proofs.tests.are_active.Goals as goal

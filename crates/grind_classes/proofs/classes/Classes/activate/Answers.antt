@@ -1,5 +1,4 @@
-use Rattle.std.specs.Prelude.{◌≡◌, ◌∷◌, [], Some, ℕ, List, set}
-use Rattle.std.proofs.Common.{◌∙◌, sym, ap}
+use Rattle.std.specs.Prelude.{◌≡◌, ◌∷◌, [], Some, set}
 use Rattle.grind_classes.specs.Classes.{IsActive, with_class}
 use Rattle.grind_classes.proofs.ClassLemmas.{AreTied-longer, IsPartition-with_class, AreTied-with_class, active-with_class, together-with_class}
 use Rattle.grind_classes.proofs.classes.Classes.activate.Goals as goal

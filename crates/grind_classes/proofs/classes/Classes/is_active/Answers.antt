@@ -1,5 +1,4 @@
 use Rattle.std.specs.Prelude.{◌≡◌}
-use Rattle.std.proofs.Common.{◌∙◌}
 use Rattle.grind_classes.specs.Roots.{root_at}
 use Rattle.grind_classes.proofs.ClassLemmas.{active_by_root}
 use Rattle.grind_classes.proofs.classes.Classes.is_active.Goals as goal

@@ -1,4 +1,4 @@
-use Rattle.std.specs.Prelude.{◌≡◌, ◌<◌, ◌≤◌, ℕ, List, length}
+use Rattle.std.specs.Prelude.{◌<◌, ◌≤◌, ℕ, List, length}
 use Rattle.std.proofs.Common.{arith, ap}
 use Rattle.grind_classes.specs.Classes.{members_of}
 use Rattle.grind_classes.proofs.MergeLemmas.{IsMerge-left, IsMerge-right}

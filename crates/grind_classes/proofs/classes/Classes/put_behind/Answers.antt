@@ -1,6 +1,6 @@
-use Rattle.std.specs.Prelude.{◌≡◌, ◌<◌, ℕ, List, All, length}
-use Rattle.std.proofs.Common.{◌∙◌, sym}
-use Rattle.grind_classes.specs.Classes.{members_of, IsIn, AreMergedAt, joined}
+use Rattle.std.specs.Prelude.{◌≡◌, ℕ}
+use Rattle.std.proofs.Common.{◌∙◌}
+use Rattle.grind_classes.specs.Classes.{members_of, IsIn, AreMergedAt}
 use Rattle.grind_classes.specs.Roots.{repointed}
 use Rattle.grind_classes.proofs.MergeLemmas.{AreJoinable, IsPartition-joined, AreTied-joined, AreMergedAt-swap, members_have_roots, together-joined, active-joined}
 use Rattle.grind_classes.proofs.classes.Classes.put_behind.Goals as goal

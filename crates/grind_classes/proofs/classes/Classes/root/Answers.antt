@@ -1,4 +1,4 @@
-use Rattle.std.specs.Prelude.{◌≡◌, Some, None}
+use Rattle.std.specs.Prelude.{◌≡◌}
 use Rattle.std.proofs.Common.{◌∙◌, sym}
 use Rattle.grind_classes.specs.Classes.{IsIn, IsActive}
 use Rattle.grind_classes.specs.Roots.{root_at}

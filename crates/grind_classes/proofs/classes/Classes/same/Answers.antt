@@ -1,4 +1,3 @@
-use Rattle.std.specs.Prelude.{◌≡◌, eqb}
 use Rattle.std.proofs.Common.{◌∙◌, sym}
 use Rattle.std.proofs.lemmas.Bool.Decides.{Decides-eqb}
 use Rattle.grind_classes.proofs.ClassLemmas.{together_by_roots}

@@ -1,5 +1,5 @@
-use Rattle.std.specs.Prelude.{◌≡◌, List, ℕ}
-use Rattle.std.proofs.Common.{ap, sym}
+use Rattle.std.specs.Prelude.{◌≡◌}
+use Rattle.std.proofs.Common.{ap}
 use Rattle.grind_congruence.specs.Congruence.{Congruence, Fits}
 use Rattle.grind_congruence.proofs.EdgeLemmas.{AreClassesOf-activate}
 use Rattle.grind_congruence.proofs.FitLemmas.{Fits-activate}

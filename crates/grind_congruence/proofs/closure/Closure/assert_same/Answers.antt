@@ -1,10 +1,9 @@
-use Rattle.std.specs.Prelude.{◌≡◌, ◌++◌, ◌∷◌, [], List, ℕ, length, take}
-use Rattle.std.proofs.Common.{ap, sym, ◌∙◌, arith}
+use Rattle.std.specs.Prelude.{◌≡◌, ◌++◌, ◌∷◌, [], List, ℕ, take}
+use Rattle.std.proofs.Common.{ap, sym, ◌∙◌}
 use Rattle.std.proofs.lemmas.List.{take_at}
 use Rattle.grind_classes.specs.Classes.{IsActive, IsIn}
 use Rattle.grind_congruence.specs.declared.edge.Edge.{Edge}
 use Rattle.grind_congruence.specs.Congruence.{Congruence, Fits}
-use Rattle.grind_congruence.specs.Asserted.{IsJoined}
 use Rattle.grind_congruence.proofs.EdgeLemmas.{AreClassesOf-merge}
 use Rattle.grind_congruence.proofs.FitLemmas.{Fits-active}
 use Rattle.grind_congruence.proofs.closure.Closure.assert_same.Goals as goal
