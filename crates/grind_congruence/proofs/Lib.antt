@@ -1,0 +1,5 @@
+pub mod EdgeLemmas
+pub mod FitLemmas
+pub mod ExactLemmas
+pub mod SearchLemmas
+pub mod ReachLemmas

@@ -1,0 +1,197 @@
+//! A closure under congruence.
+ghost use Rattle.std.specs.Prelude.{◌≡◌, ℕ, ◌<◌, ◌^◌, ◌++◌, ◌∷◌, [], Some, All, length, slice_get, IfOk, IfSome, IsNone, OnOk, OnErr, IsTrue, ◌↔◌, ◌⊎◌};
+ghost use Rattle.grind_term_graph.specs.declared.node.Node.{Node};
+ghost use Rattle.grind_classes.specs.Classes.{IsActive, AreTogether, AreApart, with_class};
+ghost use Rattle.grind_congruence.specs.Congruence.{AreCongruent, Fits, FitsEvery, IsAtRest};
+ghost use Rattle.grind_congruence.specs.Edges.{AreClassesOf, Leads, Joins};
+ghost use Rattle.grind_congruence.specs.Exact.{ExactAtRest, FitsLonger};
+ghost use Rattle.grind_congruence.specs.Asserted.{IsJoined};
+
+use crate::edge::{Edge, Found};
+use crate::path::first_way;
+use crate::search::find_pair;
+use grind_classes::Classes;
+use grind_outside::{List, Memory};
+use grind_term_graph::{NodeId, TermTable};
+use std::alloc::Global;
+use std::marker::Model;
+
+/// The classes of active nodes, and the equations that made them. Contracts see the member lists and
+/// the equations.
+#[derive(Drop, Debug)]
+pub struct Closure {
+    classes: Classes,
+    edges: List<Edge>,
+}
+
+impl Model for Closure {
+    ghost use Rattle.grind_congruence.specs.Congruence.{Congruence};
+    ghost use Rattle.grind_congruence.specs.Edges.{AreClassesOf};
+
+    ghost Value = { Congruence };
+
+    ghost view = { λ a. record { lists = a.classes; edges = a.edges } };
+
+    ghost invariant = { λ a. AreClassesOf a.classes a.edges };
+}
+
+impl Closure {
+    /// No active nodes and no equations. It fits every table and takes no memory.
+    pub fn new(alloc: Global) -> Closure
+        ensures value { result ≡ record { lists = []; edges = [] } }
+        ensures fits { FitsEvery result.lists }
+    {
+        Closure {
+            classes: Classes::new(alloc),
+            edges: List::new(alloc),
+        }
+    }
+
+    /// Makes a class of one node of the table, whose arguments are active.
+    ///
+    /// # Errors
+    ///
+    /// `Memory` leaves the closure as it was.
+    pub fn activate(&mut self, alloc: Global, terms: &TermTable, n: NodeId) -> Result<(), Memory>
+        requires fits { Fits self.old.lists terms.now.nodes }
+        requires within { n < length terms.now.nodes }
+        requires new { ¬ IsActive self.old.lists n }
+        requires args { (node : Node) → slice_get terms.now.nodes n ≡ Some node → All (IsActive self.old.lists) node.args }
+        ensures ok { OnOk result (self.new.lists ≡ with_class self.old.lists n) }
+        ensures active { OnOk result ((x : ℕ) → IsActive self.new.lists x ↔ (IsActive self.old.lists x ⊎ (x ≡ n))) }
+        ensures together { OnOk result ((x y : ℕ) → AreTogether self.new.lists x y
+            ↔ (AreTogether self.old.lists x y ⊎ ((x ≡ n) × (y ≡ n)))) }
+        ensures edges { self.new.edges ≡ self.old.edges }
+        ensures fits { Fits self.new.lists terms.now.nodes }
+        ensures err { OnErr result (self.new ≡ self.old) }
+    {
+        self.classes.activate(alloc, n)?;
+        Ok(())
+    }
+
+    /// Makes two active nodes equal. Where they are in different classes it joins these and keeps the
+    /// equation, with the nodes in this order; else it changes nothing. `why` is the number of the fact
+    /// that says so.
+    ///
+    /// # Errors
+    ///
+    /// `Memory` leaves the closure as it was.
+    pub fn assert_same(
+        &mut self,
+        alloc: Global,
+        terms: &TermTable,
+        a: NodeId,
+        b: NodeId,
+        why: u32,
+    ) -> Result<(), Memory>
+        requires fits { Fits self.old.lists terms.now.nodes }
+        requires first { IsActive self.old.lists a }
+        requires second { IsActive self.old.lists b }
+        ensures together { OnOk result (AreTogether self.old.lists a b → self.new ≡ self.old) }
+        ensures joined { OnOk result (¬ AreTogether self.old.lists a b → IsJoined self.old self.new a b why) }
+        ensures fits { Fits self.new.lists terms.now.nodes }
+        ensures err { OnErr result (self.new ≡ self.old) }
+    {
+        if self.classes.same(a, b) {
+            return Ok(());
+        }
+        let len = self.edges.len();
+        self.edges.push(Edge {
+            left: a,
+            right: b,
+            why,
+        })?;
+        match self.classes.merge(alloc, a, b, why) {
+            Ok(_) => Ok(()),
+            Err(_) => {
+                self.edges.truncate(len);
+                Err(Memory)
+            }
+        }
+    }
+
+    /// Two active nodes that are congruent and in different classes. `None` comes exactly where the
+    /// closure is at rest.
+    ///
+    /// # Errors
+    ///
+    /// `Memory`.
+    pub fn step(&mut self, _alloc: Global, terms: &TermTable) -> Result<Option<Found>, Memory>
+        requires fits { Fits self.old.lists terms.now.nodes }
+        ensures left { IfOk result (λ answer. IfSome answer (λ found. IsActive self.old.lists found.left)) }
+        ensures right { IfOk result (λ answer. IfSome answer (λ found. IsActive self.old.lists found.right)) }
+        ensures congruent { IfOk result (λ answer. IfSome answer
+            (λ found. AreCongruent self.old.lists terms.now.nodes found.left found.right)) }
+        ensures apart { IfOk result (λ answer. IfSome answer
+            (λ found. ¬ AreTogether self.old.lists found.left found.right)) }
+        ensures rest { IfOk result (λ answer. IsNone answer ↔ IsAtRest self.old.lists terms.now.nodes) }
+        ensures same { self.new ≡ self.old }
+    {
+        Ok(find_pair(&self.classes, terms))
+    }
+
+    /// Whether no two active nodes that are congruent are in different classes. It takes no memory.
+    pub fn at_rest(&self, terms: &TermTable) -> bool
+        requires { Fits self.now.lists terms.now.nodes }
+        ensures { IsTrue result ↔ IsAtRest self.now.lists terms.now.nodes }
+    {
+        match find_pair(&self.classes, terms) {
+            Some(_) => false,
+            None => true,
+        }
+    }
+
+    /// The classes. They are those that the equations make.
+    pub fn classes(&self) -> &Classes
+        ensures value { result.now ≡ self.now.lists }
+        ensures tied { AreClassesOf self.now.lists self.now.edges }
+    {
+        &self.classes
+    }
+
+    /// The equations, in the order in which they came.
+    pub fn edges(&self) -> &[Edge]
+        ensures value { result.now ≡ self.now.edges }
+        ensures bound { length result.now < 2 ^ 32 }
+        ensures tied { AreClassesOf self.now.lists self.now.edges }
+    {
+        self.edges.as_slice()
+    }
+
+    /// The places of equations that lead from one node of a class to another, in this order, each read
+    /// in either direction and none twice. Where the first `k` equations lead there, each place is below
+    /// `k`.
+    ///
+    /// # Errors
+    ///
+    /// `Memory`.
+    pub fn path(&self, alloc: Global, a: NodeId, b: NodeId) -> Result<List<u32>, Memory>
+        requires { AreTogether self.now.lists a b }
+        ensures leads { IfOk result (λ places. Leads self.now.edges places a b) }
+        ensures apart { IfOk result (λ places. AreApart places) }
+        ensures among { IfOk result (λ places. (k : ℕ) → Joins self.now.edges k a b → All (λ place. place < k) places) }
+    {
+        first_way(alloc, self.edges.as_slice(), a, b)
+    }
+
+    /// The same closure once more.
+    pub fn copy(&self, alloc: Global) -> Result<Closure, Memory>
+        ensures { IfOk result (λ closure. closure ≡ self.now) }
+    {
+        let classes = self.classes.copy(alloc)?;
+        let mut edges = List::new(alloc);
+        edges.extend(self.edges.as_slice())?;
+        Ok(Closure { classes, edges })
+    }
+}
+
+/// What is at rest knows exactly what is derivable: two active nodes are in one class exactly where
+/// their equality follows from the kept equations by congruence over the active nodes.
+pub fn at_rest_is_exact()
+    ensures { ExactAtRest }
+{}
+
+/// What fits a table fits each longer one.
+pub fn fits_longer()
+    ensures { FitsLonger }
+{}

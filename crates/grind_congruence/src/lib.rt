@@ -1,0 +1,16 @@
+//! Closure of equations under congruence over the nodes of a term table that are active: the classes
+//! that kept equations make, the next two congruent nodes that are not yet together, and the ways along
+//! the kept equations that lead from one node to another.
+#![tactic(auto)]
+
+pub mod closure;
+pub mod edge;
+mod path;
+mod reached;
+mod search;
+
+pub use closure::{Closure, at_rest_is_exact, fits_longer};
+pub use edge::{Edge, Found};
+
+#[cfg(test)]
+mod tests;
