@@ -195,14 +195,31 @@ fn goals_that_their_hypotheses_close(rt: HostRuntime) -> Result<(), Fail> {
 }
 
 #[test]
+fn goals_that_congruence_closes(rt: HostRuntime) -> Result<(), Fail> {
+    for text in [
+        "sort S. goal t (a b: S): a = b |- b = a.",
+        "sort S. goal t (a b c: S): a != a |- b = c.",
+        "sort S. fun f(S): S. goal t (a: S): f(f(f(a))) = a ; f(f(f(f(f(a))))) = a |- f(a) = a.",
+        "sort S. goal t (a b c: S): a = b ; b = c ; a != c |- a != b.",
+        "sort S. fun g(S, S): S. goal t (a b c d: S): a = b ; c = d |- g(a, c) = g(b, d).",
+        "sort S. fun f(S): S. goal t (a b: S): f(a) != f(b) |- a != b.",
+    ] {
+        let left = run_on(&rt, &["solve", "t.gr"], text.as_bytes(), &[], &[], 4096)?;
+        assert!(rt; left.status == Status::AllClosed, "{text}");
+        assert!(rt; is_text(&left.notes, ""), "{text}");
+    }
+    Ok(())
+}
+
+#[test]
 fn goals_that_stay_open(rt: HostRuntime) -> Result<(), Fail> {
     for text in [
         "sort S. goal t (a b: S): |- a = b.",
         "sort S. goal t (a b: S): |- a != b.",
-        "sort S. goal t (a b: S): a = b |- b = a.",
         "sort S. goal t (a b: S): a = b |- a != b.",
-        "sort S. goal t (a b c: S): a != a |- b = c.",
-        "sort S. fun f(S): S. goal t (a: S): f(f(f(a))) = a ; f(f(f(f(f(a))))) = a |- f(a) = a.",
+        "sort S. goal t (a b c d: S): a = b ; c = d |- a = c.",
+        "sort S. fun f(S): S. fun g(S): S. goal t (a b: S): a = b |- f(a) = g(b).",
+        "sort S. fun f(S): S. goal t (a: S): f(f(f(f(a)))) = a ; f(f(f(f(f(f(a)))))) = a |- f(a) = a.",
     ] {
         solves(&rt, text, Status::SomeOpen, OPEN_REPORT, "")?;
     }

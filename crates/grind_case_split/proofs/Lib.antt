@@ -1,0 +1,5 @@
+pub mod LawLemmas
+pub mod FactLemmas
+pub mod LineLemmas
+pub mod TableLemmas
+pub mod BuildingLemmas
