@@ -35,7 +35,7 @@ shape_of nodes n head args table is =
     let it : Node = found.0 in
     let shaped = shape_at nodes n it table found.1 in
     let by_head : IsShaped head it.sort (map (sort_at nodes) it.args) =
-        subst (λ (h : Head). IsShaped h it.sort (map (sort_at nodes) it.args)) found.2.0 shaped in
+    subst (λ (h : Head). IsShaped h it.sort (map (sort_at nodes) it.args)) found.2.0 shaped in
     (it.sort, cc, subst (λ (list : List ℕ). IsShaped head it.sort (map (sort_at nodes) list)) found.2.1 by_head)
 
 -- the sides of an equation have one sort

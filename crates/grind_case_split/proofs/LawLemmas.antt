@@ -28,7 +28,7 @@ sides_within nodes n a b table is =
     let within : n < length nodes = slice_get_within nodes n it found.1 in
     let shaped = WellShaped-at [] nodes n it table found.1 in
     let args : All (λ (arg : ℕ). arg < length (take n nodes)) (a ∷ b ∷ []) =
-        subst (λ (list : List ℕ). All (λ (arg : ℕ). arg < length (take n nodes)) list) found.2.1 shaped.0 in
+    subst (λ (list : List ℕ). All (λ (arg : ℕ). arg < length (take n nodes)) list) found.2.1 shaped.0 in
     let count : length (take n nodes) ≡ n = length-take-le n nodes (omega arith) in
     let first : a < length (take n nodes) = args 0 0 (omega arith) in
     let second : b < length (take n nodes) = args 1 0 (omega arith) in

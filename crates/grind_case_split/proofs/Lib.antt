@@ -3,3 +3,5 @@ pub mod FactLemmas
 pub mod LineLemmas
 pub mod TableLemmas
 pub mod BuildingLemmas
+pub mod GivenLemmas
+pub mod DecidingLemmas

@@ -100,7 +100,7 @@ put_rooted lemmas goal proof line root rooted last =
       typed = λ i below. elim (cases_eq i (length proof.lines)) [
         | inl here ↦ subst (TypedLine lemmas goal (appended proof line)) (sym here) last
         | inr other ↦ let count = one_more proof.lines line in
-              typed_lines_stay_lem lemmas goal proof (appended proof line) i grown (rooted.typed i (omega arith))
+            typed_lines_stay_lem lemmas goal proof (appended proof line) i grown (rooted.typed i (omega arith))
       ];
     }
 
@@ -145,7 +145,7 @@ pub clash_proves : (lemmas : Lemmas) (goal : GoalData) (old new : Proof) (rule :
 clash_proves lemmas goal old new rule premises is rooted =
     let line : Line = root_line rule premises Absurd in
     let closed : IsClosed new.lines 0 =
-        subst (λ (proof : Proof). IsClosed proof.lines 0) (sym is) (closed_by old.lines line refl refl) in
+    subst (λ (proof : Proof). IsClosed proof.lines 0) (sym is) (closed_by old.lines line refl refl) in
     let none : length new.branches ≡ 0 = ap (λ (all : List Branch). length all) rooted.branches in
     record {
       typed = record { branches = λ b few. good_root new b (omega (arith, few, none)) closed; lines = rooted.typed };

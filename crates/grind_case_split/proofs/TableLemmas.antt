@@ -46,7 +46,7 @@ truth_of_node nodes free truths n node stands =
     let known : List (Option Bool) = truths_of free truths [] (take n nodes) in
     let truth : Option Bool = node_truth free truths known n node in
     let gives : Some truth ≡ option_map (node_truth free truths known n) (slice_get nodes n) =
-        sym (ap (option_map (node_truth free truths known n)) stands) in
+    sym (ap (option_map (node_truth free truths known n)) stands) in
     let longer = truths_next free truths nodes known n truth within refl gives in
     let front : length (take n nodes) ≡ n = length-take-le n nodes (omega arith) in
     let counted = count_truths free truths [] (take n nodes) in
@@ -85,13 +85,13 @@ negation_truth nodes m n t table is =
     let within : n < length nodes = slice_get_within nodes n it found.1 in
     let shaped = WellShaped-at [] nodes n it table found.1 in
     let args : All (λ (arg : ℕ). arg < length (take n nodes)) (m ∷ []) =
-        subst (λ (list : List ℕ). All (λ (arg : ℕ). arg < length (take n nodes)) list) found.2.1 shaped.0 in
+    subst (λ (list : List ℕ). All (λ (arg : ℕ). arg < length (take n nodes)) list) found.2.1 shaped.0 in
     let count : length (take n nodes) ≡ n = length-take-le n nodes (omega arith) in
     let first : m < length (take n nodes) = args 0 0 (omega arith) in
     let below : m < n = omega (arith, first, count) in
     let known : List (Option Bool) = truths_of (m ∷ []) (t ∷ []) [] (take n nodes) in
     let inner : truth_at known m ≡ Some t =
-        first_truths_agree (m ∷ []) (t ∷ []) nodes known n refl m below ∙ free_node_truth nodes m t (omega (arith, below, within)) in
+    first_truths_agree (m ∷ []) (t ∷ []) nodes known n refl m below ∙ free_node_truth nodes m t (omega (arith, below, within)) in
     truth_of_node nodes (m ∷ []) (t ∷ []) n it found.1
     ∙ ap (λ (o : Option Bool). option_or o (joined_truth it.head (map (truth_at known) it.args))) (free_other m n t below)
     ∙ ap (λ (h : Head). joined_truth h (map (truth_at known) it.args)) found.2.0

@@ -1,5 +1,5 @@
 -- What is kept while a closure is built. No public clause cites these words.
-use Rattle.std.specs.Prelude.{◌≡◌, ℕ, suc, ◌<◌, ◌≤◌, List, [], ◌∷◌, Some, All, Contains, length, slice_get, ◌⊎◌}
+use Rattle.std.specs.Prelude.{◌≡◌, ℕ, suc, ◌<◌, ◌≤◌, Bool, true, false, List, [], ◌∷◌, Some, All, Contains, length, slice_get, ◌⊎◌}
 use Rattle.grind_term_graph.specs.declared.node.Node.{Node}
 use Rattle.grind_classes.specs.Classes.{IsActive, AreTogether}
 use Rattle.grind_congruence.specs.declared.edge.Edge.{Edge}
@@ -26,12 +26,16 @@ pub record IsBuilt (nodes : List Node) (given : List Edge) (closure : Congruence
   pub founded : AreFounded nodes given closure.edges
 
 -- who is together stays together
-abbrev pub KeepsTogether : Congruence → Congruence → Type 0
-KeepsTogether old new = (a b : ℕ) → AreTogether old.lists a b → AreTogether new.lists a b
+pub record KeepsTogether (old new : Congruence) : Type 0 where
+  pub stays : (a b : ℕ) → AreTogether old.lists a b → AreTogether new.lists a b
 
 -- the ends of the edge are together
-abbrev pub IsAsserted : Congruence → Edge → Type 0
-IsAsserted closure edge = AreTogether closure.lists edge.left edge.right
+pub record IsAsserted (closure : Congruence) (edge : Edge) : Type 0 where
+  pub ends : AreTogether closure.lists edge.left edge.right
+
+-- those of each given edge are
+pub record AreAsserted (given : List Edge) (closure : Congruence) : Type 0 where
+  pub each : (edge : Edge) → Contains given edge → IsAsserted closure edge
 
 -- how many lists have members
 abbrev pub class_count : List (List ℕ) → ℕ
@@ -39,12 +43,22 @@ class_count [] = 0
 class_count ([] ∷ lists) = class_count lists
 class_count ((n ∷ members) ∷ lists) = suc (class_count lists)
 
+-- the closure is at rest
+pub record HasRest (nodes : List Node) (closure : Congruence) : Type 0 where
+  pub rest : IsAtRest closure.lists nodes
+
 -- what one more edge makes of a closure: it is built from the same given edges, with fewer classes
 pub record IsOneMore (nodes : List Node) (given : List Edge) (old new : Congruence) (a b : ℕ) : Type 0 where
   pub built : IsBuilt nodes given new
   pub keeps : KeepsTogether old new
   pub asserted : AreTogether new.lists a b
   pub fewer : class_count new.lists < class_count old.lists
+
+-- a step was made: there are fewer classes. Or there was none to make
+abbrev pub IsStepped : List Node → List Edge → Congruence → Congruence → Bool → Type 0
+IsStepped nodes given old new true =
+    IsBuilt nodes given new × KeepsTogether old new × (class_count new.lists < class_count old.lists)
+IsStepped nodes given old new false = (new ≡ old) × HasRest nodes new
 
 -- what the activation of the first nodes keeps
 pub record IsActiveBelow (nodes : List Node) (closure : Congruence) (bound : ℕ) : Type 0 where
@@ -62,5 +76,5 @@ pub record IsAsserting (nodes : List Node) (given rest : List Edge) (closure : C
 -- a closure that knows the given edges, and all that follows by congruence
 pub record IsClosure (nodes : List Node) (given : List Edge) (closure : Congruence) : Type 0 where
   pub built : IsBuilt nodes given closure
-  pub asserted : (edge : Edge) → Contains given edge → IsAsserted closure edge
-  pub rest : IsAtRest closure.lists nodes
+  pub asserted : AreAsserted given closure
+  pub rest : HasRest nodes closure

@@ -62,6 +62,11 @@ abbrev pub IsRightFor : Lemmas → GoalData → Plain → Type 0
 IsRightFor lemmas goal (plain.Closed proof) = IsAnswered goal × IsProofOf lemmas goal proof
 IsRightFor lemmas goal plain.Unexplored = ¬ IsAnswered goal
 
+-- the answer is right as far as congruence decides
+abbrev pub IsDecided : Lemmas → GoalData → Plain → Type 0
+IsDecided lemmas goal (plain.Closed proof) = CongruenceEntails goal × IsProofOf lemmas goal proof
+IsDecided lemmas goal plain.Unexplored = ¬ CongruenceEntails goal
+
 -- the node says that two terms are equal or different
 abbrev pub ComparesTerms : GoalData → ℕ → Type 0
 ComparesTerms goal node = (a : ℕ) × (b : ℕ) × (IsEqual goal node a b ⊎ IsUnequal goal node a b)

@@ -3,3 +3,4 @@ pub mod Laws
 pub mod Facts
 pub mod Writing
 pub mod Building
+pub mod Given

@@ -1,9 +1,8 @@
 //! The closure of given equations under congruence over all nodes of a table.
-ghost use Rattle.std.specs.Prelude.{◌≡◌, ℕ, ◌<◌, [], All, Contains, IfOk, OnOk, length};
+ghost use Rattle.std.specs.Prelude.{◌≡◌, ℕ, ◌+◌, ◌<◌, [], All, Contains, IfOk, OnOk, length};
 ghost use Rattle.grind_classes.specs.Classes.{AreTogether};
-ghost use Rattle.grind_congruence.specs.declared.edge.Edge.{Edge as Entry};
-ghost use Rattle.grind_congruence.specs.Congruence.{AreCongruent, IsAtRest};
-ghost use Rattle.grind_case_split.specs.Building.{IsFounded, HasEnds, IsBuilt, KeepsTogether, IsAsserted, IsOneMore, IsActiveBelow, IsClosure};
+ghost use Rattle.grind_congruence.specs.Congruence.{AreCongruent};
+ghost use Rattle.grind_case_split.specs.Building.{IsFounded, HasEnds, IsBuilt, KeepsTogether, IsAsserted, IsOneMore, AreAsserted, HasRest, IsStepped, IsActiveBelow, IsClosure};
 
 use grind_congruence::{Closure, Edge, Found};
 use grind_outside::Memory;
@@ -77,7 +76,9 @@ fn assert_given(
     if closure.classes().same(edge.left, edge.right) {
         return Ok(());
     }
-    join(alloc, terms, given, closure, edge.left, edge.right, edge.why)?;
+    join(
+        alloc, terms, given, closure, edge.left, edge.right, edge.why,
+    )?;
     Ok(())
 }
 
@@ -91,7 +92,7 @@ fn assert_all(
     requires built { IsBuilt terms.now.nodes given.now closure.old }
     requires ends { All (HasEnds terms.now.nodes) given.now }
     ensures built { OnOk result (IsBuilt terms.now.nodes given.now closure.new) }
-    ensures asserted { OnOk result ((edge : Entry) → Contains given.now edge → IsAsserted closure.new edge) }
+    ensures asserted { OnOk result (AreAsserted given.now closure.new) }
 {
     let mut rest = given;
     while let Some((edge, tail)) = rest.split_first() {
@@ -119,6 +120,24 @@ fn join_found(
     Ok(())
 }
 
+// Asserts the equation of two congruent nodes that are not together, if there are any, and answers whether there were.
+fn join_next(
+    alloc: Global,
+    terms: &TermTable,
+    given: &[Edge],
+    closure: &mut Closure,
+) -> Result<bool, Memory>
+    requires built { IsBuilt terms.now.nodes given.now closure.old }
+    ensures { IfOk result (λ went. IsStepped terms.now.nodes given.now closure.old closure.new went) }
+{
+    let answer = closure.step(alloc, terms)?;
+    let Some(found) = answer else {
+        return Ok(false);
+    };
+    join_found(alloc, terms, given, closure, found)?;
+    Ok(true)
+}
+
 // Asserts the equations of congruent nodes until all that are congruent are together.
 fn settle(
     alloc: Global,
@@ -129,11 +148,9 @@ fn settle(
     requires built { IsBuilt terms.now.nodes given.now closure.old }
     ensures built { OnOk result (IsBuilt terms.now.nodes given.now closure.new) }
     ensures keeps { OnOk result (KeepsTogether closure.old closure.new) }
-    ensures rest { OnOk result (IsAtRest closure.new.lists terms.now.nodes) }
+    ensures rest { OnOk result (HasRest terms.now.nodes closure.new) }
 {
-    while let Some(found) = closure.step(alloc, terms)? {
-        join_found(alloc, terms, given, closure, found)?;
-    }
+    while join_next(alloc, terms, given, closure)? {}
     Ok(())
 }
 

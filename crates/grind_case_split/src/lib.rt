@@ -3,10 +3,13 @@
 #![tactic(auto)]
 
 mod building;
+mod closing;
 mod fact;
+mod given;
 pub mod laws;
 mod lines;
 pub mod plain;
+mod refuted;
 
 pub use laws::ground_goals;
 pub use plain::{Plain, solve_goal};

@@ -43,7 +43,7 @@ fn put(
 }
 
 // Puts a line without premises behind the proof.
-fn put_first(
+pub(crate) fn put_first(
     alloc: Global,
     lemmas: &Lemmas,
     goal: &Goal,
@@ -118,7 +118,14 @@ fn source_line(
     let count = goal.hyps.len();
     let claim = literal_claim(fact.holds, fact.node);
     if fact.holds && (fact.source as usize) < count {
-        let number = put_first(alloc, lemmas, goal, proof, Rule::Hyp(fact.source + 1), claim)?;
+        let number = put_first(
+            alloc,
+            lemmas,
+            goal,
+            proof,
+            Rule::Hyp(fact.source + 1),
+            claim,
+        )?;
         return Ok(number);
     }
     let number = put_first(alloc, lemmas, goal, proof, Rule::Negated, claim)?;
@@ -220,6 +227,14 @@ pub(crate) fn clash_line(
     let mut premises = List::new(alloc);
     premises.push(one)?;
     premises.push(other)?;
-    put(alloc, lemmas, goal, proof, Rule::Clash, premises, Claim::Absurd)?;
+    put(
+        alloc,
+        lemmas,
+        goal,
+        proof,
+        Rule::Clash,
+        premises,
+        Claim::Absurd,
+    )?;
     Ok(())
 }

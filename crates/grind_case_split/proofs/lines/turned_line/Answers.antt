@@ -17,12 +17,12 @@ put_next-requires-clause-says c =
     let nodes : List Node = c.args.goal.now.terms.nodes in
     let equation : ℕ = c.args.fact.now.reading.equation in
     let read : IsReadAs nodes c.args.fact.now.node false equation c.args.fact.now.reading.left c.args.fact.now.reading.right =
-        subst (λ (plain : Bool). IsReadAs nodes c.args.fact.now.node plain equation c.args.fact.now.reading.left c.args.fact.now.reading.right)
-        c.requires.negated c.requires.fact.reading in
+    subst (λ (plain : Bool). IsReadAs nodes c.args.fact.now.node plain equation c.args.fact.now.reading.left c.args.fact.now.reading.right)
+    c.requires.negated c.requires.fact.reading in
     let same : c.goal.inside.terms ≡ c.args.goal.now.terms = ap (λ (g : GoalData). g.terms) c.goal.view_is in
     let table_of : IsNodeTable [] nodes = subst (λ (terms : Terms). IsNodeTable [] terms.nodes) same c.len-count.ensures.table in
     let table : IsTable nodes (equation ∷ []) (Some (literal c.args.fact.now.holds c.args.fact.now.node) ∷ []) (literal (not c.args.fact.now.holds) equation) =
-        turned_table nodes equation c.args.fact.now.node c.args.fact.now.holds table_of read.0 c.requires.fact.sorted.formula in
+    turned_table nodes equation c.args.fact.now.node c.args.fact.now.holds table_of read.0 c.requires.fact.sorted.formula in
     let free : c.push.new.self ≡ equation ∷ [] = c.in_ok-push.ensures.ok ∙ ap (λ (l : List ℕ). l ++ equation ∷ []) c.new-free.ensures in
     subst (λ (claim : Claim). IsTable nodes c.push.new.self (claim_at c.args.proof.now.lines c.args.said ∷ []) claim)
     (sym c.literal_claim-claim.ensures)
