@@ -22,10 +22,10 @@ terms 5
 4 eq 3 3
 branches 0
 lines 4
-0 0 negated : fails 4
-1 0 refl : same 3 3
-2 0 back 1 : holds 4
-3 0 clash 2 0 : absurd
+0 0 refl : same 3 3
+1 0 negated : fails 4
+2 0 eq 1 : differ 3 3
+3 0 clash 0 2 : absurd
 end 1
 ";
 
@@ -237,7 +237,7 @@ fn blocks_stand_in_the_order_of_the_goals(rt: HostRuntime) -> Result<(), Fail> {
         terms 6\n0 true\n1 false\n2 const x\n3 const z\n4 fun f 2 3\n5 eq 4 4\n\
         branches 0\n\
         lines 4\n\
-        0 0 negated : fails 5\n1 0 refl : same 4 4\n2 0 back 1 : holds 5\n3 0 clash 2 0 : absurd\n\
+        0 0 refl : same 4 4\n1 0 negated : fails 5\n2 0 eq 1 : differ 4 4\n3 0 clash 0 2 : absurd\n\
         goal third open unexplored\n\
         end 3\n";
     solves(&rt, text, Status::SomeOpen, report, "")
