@@ -1,25 +1,17 @@
 -- What `solve` answers for a theory: a block for each goal.
-use Rattle.std.specs.Prelude.{◌≡◌, ◌⊎◌, ℕ, ℤ, List, [], ◌∷◌, ◌++◌, Contains, length, flat_map, Option}
+use Rattle.std.specs.Prelude.{◌≡◌, ◌⊎◌, ℕ, ℤ, List, [], ◌∷◌, ◌++◌, length, flat_map, Option}
 use Rattle.std.specs.List.{AllByRecursion, AllZip}
 use Rattle.grind_outside.specs.Outside.{appended, IsFront}
 use Rattle.grind_schemes.specs.Goals.{GoalData}
 use Rattle.grind_schemes.specs.declared.lemmas.Lemmas.{Lemmas}
 use Rattle.grind_proof_kernel.specs.declared.proof.Proof.{Proof}
-use Rattle.grind_proof_kernel.specs.Rules.{IsEquation}
+use Rattle.grind_case_split.specs.Congruences.{IsAnswered}
 use Rattle.grind_proof_kernel.specs.Typing.{Typed}
 use Rattle.grind_signature.specs.Signatures.{SignatureData}
 use Rattle.grind_value_tables.specs.Respects.{Respects}
 use Rattle.grind_value_tables.specs.Truths.{GoalTrue}
 use Rattle.grind_report.specs.Report.{RawProof, Block, Closed, Unexplored, Report, ReportOf, BlockFits, header_bytes, block_bytes, end_bytes}
 use Rattle.grind_report.specs.Blocks.{ProofOf}
-
--- the conclusion is an equation of a term with itself
-abbrev pub IsReflexive : GoalData → Type 0
-IsReflexive goal = (a : ℕ) × IsEquation goal.terms.nodes goal.show a a
-
--- the conclusion is one of the hypotheses, or an equation of a term with itself
-abbrev pub IsEvident : GoalData → Type 0
-IsEvident goal = Contains goal.hyps goal.show ⊎ IsReflexive goal
 
 -- the goal is true in every table of values that respects the terms of the proof
 abbrev pub IsTrueEverywhere : GoalData → Proof → Type 0
@@ -31,12 +23,12 @@ pub record Proves (signature : SignatureData) (lemmas : Lemmas) (goal : GoalData
   pub typed : Typed lemmas goal proof
   pub true_everywhere : IsTrueEverywhere goal proof
 
--- the block answers the goal. It has the goal's name. A goal is closed exactly where its conclusion is evident, and a
--- closed block proves it.
+-- the block answers the goal. It has the goal's name. A goal is closed exactly where its conclusion is one of its
+-- hypotheses or congruence entails it, and a closed block proves it.
 abbrev pub AnswersGoal : SignatureData → Lemmas → GoalData → Block → Type 0
 AnswersGoal signature lemmas goal (Closed name raw) =
-    (name ≡ goal.name) × IsEvident goal × ((proof : Proof) × Proves signature lemmas goal raw proof)
-AnswersGoal signature lemmas goal (Unexplored name) = (name ≡ goal.name) × ¬ IsEvident goal
+    (name ≡ goal.name) × IsAnswered goal × ((proof : Proof) × Proves signature lemmas goal raw proof)
+AnswersGoal signature lemmas goal (Unexplored name) = (name ≡ goal.name) × ¬ IsAnswered goal
 
 -- one block for each goal, in order, and each answers its goal
 abbrev pub AnswersAll : SignatureData → Lemmas → List GoalData → List Block → Type 0

@@ -22,10 +22,10 @@ terms 5
 4 eq 3 3
 branches 0
 lines 4
-0 0 negated : fails 4
-1 0 refl : same 3 3
-2 0 back 1 : holds 4
-3 0 clash 2 0 : absurd
+0 0 refl : same 3 3
+1 0 negated : fails 4
+2 0 eq 1 : differ 3 3
+3 0 clash 0 2 : absurd
 end 1
 ";
 
@@ -222,14 +222,31 @@ fn goals_that_their_hypotheses_close(rt: HostRuntime) -> Result<(), Fail> {
 }
 
 #[test]
+fn goals_that_congruence_closes(rt: HostRuntime) -> Result<(), Fail> {
+    for text in [
+        "sort S. goal t (a b: S): a = b |- b = a.",
+        "sort S. goal t (a b c: S): a != a |- b = c.",
+        "sort S. fun f(S): S. goal t (a: S): f(f(f(a))) = a ; f(f(f(f(f(a))))) = a |- f(a) = a.",
+        "sort S. goal t (a b c: S): a = b ; b = c ; a != c |- a != b.",
+        "sort S. fun g(S, S): S. goal t (a b c d: S): a = b ; c = d |- g(a, c) = g(b, d).",
+        "sort S. fun f(S): S. goal t (a b: S): f(a) != f(b) |- a != b.",
+    ] {
+        let left = run_on(&rt, &["solve", "t.gr"], text.as_bytes(), &[], &[], 4096)?;
+        assert!(rt; left.status == Status::AllClosed, "{text}");
+        assert!(rt; is_text(&left.notes, ""), "{text}");
+    }
+    Ok(())
+}
+
+#[test]
 fn goals_that_stay_open(rt: HostRuntime) -> Result<(), Fail> {
     for text in [
         "sort S. goal t (a b: S): |- a = b.",
         "sort S. goal t (a b: S): |- a != b.",
-        "sort S. goal t (a b: S): a = b |- b = a.",
         "sort S. goal t (a b: S): a = b |- a != b.",
-        "sort S. goal t (a b c: S): a != a |- b = c.",
-        "sort S. fun f(S): S. goal t (a: S): f(f(f(a))) = a ; f(f(f(f(f(a))))) = a |- f(a) = a.",
+        "sort S. goal t (a b c d: S): a = b ; c = d |- a = c.",
+        "sort S. fun f(S): S. fun g(S): S. goal t (a b: S): a = b |- f(a) = g(b).",
+        "sort S. fun f(S): S. goal t (a: S): f(f(f(f(a)))) = a ; f(f(f(f(f(f(a)))))) = a |- f(a) = a.",
     ] {
         solves(&rt, text, Status::SomeOpen, OPEN_REPORT, "")?;
     }
@@ -247,7 +264,7 @@ fn blocks_stand_in_the_order_of_the_goals(rt: HostRuntime) -> Result<(), Fail> {
         terms 6\n0 true\n1 false\n2 const x\n3 const z\n4 fun f 2 3\n5 eq 4 4\n\
         branches 0\n\
         lines 4\n\
-        0 0 negated : fails 5\n1 0 refl : same 4 4\n2 0 back 1 : holds 5\n3 0 clash 2 0 : absurd\n\
+        0 0 refl : same 4 4\n1 0 negated : fails 5\n2 0 eq 1 : differ 4 4\n3 0 clash 0 2 : absurd\n\
         goal third open unexplored\n\
         end 3\n";
     solves(&rt, text, Status::SomeOpen, report, "")

@@ -1,0 +1,148 @@
+#!/usr/bin/env python3
+"""Times the proved program on goals that congruence decides, and z3 beside it where it is installed.
+
+Usage: bench/congruence.py [PROGRAM]
+
+PROGRAM is crates/grind_main/out/grind_main, which `./grind` builds. For each family and size the table gives the
+seconds of the fastest of three runs and the growth against half the size, and the same of z3 in the same run.
+"""
+
+import os
+import shutil
+import subprocess
+import sys
+import tempfile
+import time
+
+ROUNDS = 3
+LIMIT_SECONDS = 60
+
+
+def chain(n):
+    """A chain of n equal constants."""
+    names = [f"c{i}" for i in range(n + 1)]
+    return names, [], [(f"c{i}", f"c{i + 1}") for i in range(n)], ("c0", f"c{n}")
+
+
+def cycle(n):
+    """`f` applied n times, by constants, with two cycles whose lengths have no common divisor."""
+    names = [f"c{i}" for i in range(n + 1)]
+    pairs = [(f"c{i + 1}", f"(f c{i})") for i in range(n)]
+    return names, [("f", 1)], pairs + [(f"c{n}", "c0"), (f"c{n - 1}", "c0")], ("c1", "c0")
+
+
+def tree(n):
+    """A balanced tree of n leaves, once over each of two rows of equal leaves."""
+    def over(row):
+        while len(row) > 1:
+            row = [f"(g {a} {b})" for a, b in zip(row[::2], row[1::2])] + row[len(row) & ~1:]
+        return row[0]
+
+    left = [f"a{i}" for i in range(n)]
+    right = [f"b{i}" for i in range(n)]
+    return left + right, [("g", 2)], list(zip(left, right)), (over(left), over(right))
+
+
+def infix(term):
+    """A term of the theory language, from one with its function inside the parentheses."""
+    out, after = [], False
+    for word in term.replace("(", " ( ").replace(")", " ) ").split():
+        if word == "(":
+            after = True
+        elif after:
+            out.append(word + "(")
+            after = False
+        elif word == ")":
+            out.append(")")
+        else:
+            out.append(word)
+    text = " ".join(out).replace("( ", "(").replace(" )", ")")
+    return text.replace(" ", ", ")
+
+
+def theory(parts, goals=1):
+    names, functions, pairs, (left, right) = parts
+    lines = ["sort S."]
+    lines += [f"fun {f}({', '.join(['S'] * count)}): S." for f, count in functions]
+    hyps = " ; ".join(f"{infix(a)} = {infix(b)}" for a, b in pairs)
+    for i in range(goals):
+        lines.append(f"goal t{i} ({' '.join(names)}: S): {hyps} |- {infix(left)} = {infix(right)}.")
+    return "\n".join(lines) + "\n"
+
+
+def script(parts, goals=1):
+    names, functions, pairs, (left, right) = parts
+    lines = ["(set-logic QF_UF)", "(declare-sort S 0)"]
+    lines += [f"(declare-fun {f} ({' '.join(['S'] * count)}) S)" for f, count in functions]
+    lines += [f"(declare-const {name} S)" for name in names]
+    for _ in range(goals):
+        lines.append("(push)")
+        lines += [f"(assert (= {a} {b}))" for a, b in pairs]
+        lines += [f"(assert (not (= {left} {right})))", "(check-sat)", "(pop)"]
+    return "\n".join(lines) + "\n"
+
+
+def fastest(words):
+    best = None
+    for _ in range(ROUNDS):
+        start = time.perf_counter()
+        try:
+            subprocess.run(words, stdout=subprocess.DEVNULL, timeout=LIMIT_SECONDS, check=False)
+        except subprocess.TimeoutExpired:
+            return None
+        taken = time.perf_counter() - start
+        best = taken if best is None else min(best, taken)
+        if taken > 5:
+            break
+    return best
+
+
+def shown(taken, half):
+    if taken is None:
+        return f"over {LIMIT_SECONDS}", ""
+    return f"{taken:.3f}", "" if half is None else f"{taken / half:.2f}"
+
+
+FAMILIES = [
+    ("chain", [25, 50, 100, 200], lambda n: (chain(n), 1)),
+    ("cycle", [25, 50, 100, 199], lambda n: (cycle(n), 1)),
+    ("tree", [16, 32, 64, 128], lambda n: (tree(n), 1)),
+    ("goals", [500, 1000, 2000, 4000], lambda n: (cycle(5), n)),
+]
+
+
+def main():
+    top = os.path.dirname(os.path.dirname(os.path.abspath(__file__)))
+    built = os.path.join(top, "crates", "grind_main", "out", "grind_main")
+    program = os.path.abspath(sys.argv[1]) if len(sys.argv) > 1 else built
+    if not os.access(program, os.X_OK):
+        sys.exit(f"{program}: not built yet; ./grind builds it")
+    other = shutil.which("z3")
+    print("| family | size | seconds | growth | z3 seconds | z3 growth |")
+    print("|---|---|---|---|---|---|")
+    with tempfile.TemporaryDirectory() as folder:
+        for name, sizes, make in FAMILIES:
+            half = other_half = None
+            for size in sizes:
+                parts, goals = make(size)
+                path, smt = os.path.join(folder, "t.gr"), os.path.join(folder, "t.smt2")
+                with open(path, "w", encoding="ascii") as file:
+                    file.write(theory(parts, goals))
+                with open(smt, "w", encoding="ascii") as file:
+                    file.write(script(parts, goals))
+                taken = fastest([program, "solve", path])
+                row = [name, f"{size:,}", *shown(taken, half)]
+                if other:
+                    other_taken = fastest([other, smt])
+                    row += shown(other_taken, other_half)
+                    other_half = other_taken
+                else:
+                    row += ["", ""]
+                half = taken
+                print("| " + " | ".join(row) + " |", flush=True)
+                if taken is None:
+                    break
+
+
+if __name__ == "__main__":
+    main()

@@ -1,0 +1,7 @@
+pub mod LawLemmas
+pub mod FactLemmas
+pub mod LineLemmas
+pub mod TableLemmas
+pub mod BuildingLemmas
+pub mod GivenLemmas
+pub mod DecidingLemmas

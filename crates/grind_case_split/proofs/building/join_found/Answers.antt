@@ -1,0 +1,7 @@
+use Rattle.grind_case_split.proofs.BuildingLemmas.{congruent_founded}
+use Rattle.grind_case_split.proofs.building.join_found.Goals as goal
+
+pub join-requires-clause-founded : goal.join-requires-clause-founded
+join-requires-clause-founded c =
+    congruent_founded c.args.terms.now.nodes c.args.given.now c.args.closure.now c.args.found.left c.args.found.right c.classes-classes.ensures.tied
+    c.requires.congruent

@@ -1,0 +1,10 @@
+use Rattle.std.specs.Prelude.{◌≡◌}
+use Rattle.grind_proof_kernel.specs.declared.claim.Claim.TheVariants.{Holds, Fails}
+use Rattle.grind_case_split.proofs.DecidingLemmas.{opposed_clash}
+use Rattle.grind_case_split.proofs.closing.by_hypothesis.Goals as goal
+
+pub clash_line-requires-clause-clash : goal.clash_line-requires-clause-clash
+clash_line-requires-clause-clash c =
+    opposed_clash c.args.goal.now.terms.nodes _ _ c.show-show.result
+    (c.in_ok-denied.ensures.stay c.in_ok-held.held (Holds c.show-show.result) c.in_ok-held.ensures.claims)
+    c.in_ok-denied.ensures.claims

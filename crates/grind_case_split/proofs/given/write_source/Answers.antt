@@ -1,0 +1,15 @@
+use Rattle.std.specs.Prelude.{◌≡◌, true, false}
+use Rattle.std.proofs.Common.{sym, ◌∙◌}
+use Rattle.grind_case_split.specs.Facts.{equates}
+use Rattle.grind_case_split.proofs.GivenLemmas.{Covers-difference, Covers-pair}
+use Rattle.grind_case_split.proofs.given.write_source.Goals as goal
+
+pub returns-then-not-is_equal-clause-covers : goal.returns-then-not-is_equal-clause-covers
+returns-then-not-is_equal-clause-covers c =
+    let differs : equates c.in-Some.fact ≡ false = cc in
+    Covers-difference c.args.goal.now c.args.given.now c.in-Some.fact c.args.k c.in-Some.ensures.is c.in-Some.ensures.source differs
+
+pub returns-clause-covers : goal.returns-clause-covers
+returns-clause-covers c =
+    Covers-pair c.args.goal.now c.write_pair.new.given c.in-Some.fact c.args.k c.in-Some.ensures.is c.in-Some.ensures.source
+    c.in_ok-write_pair.ensures.pair

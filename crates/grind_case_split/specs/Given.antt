@@ -1,0 +1,78 @@
+-- What is kept while the given pairs of a goal are written down, and which facts a closure refutes. No public clause cites these
+-- words.
+use Rattle.std.specs.Prelude.{◌≡◌, ℕ, ◌<◌, true, false, List, Some, All, Contains, slice_get}
+use Rattle.grind_schemes.specs.Goals.{GoalData}
+use Rattle.grind_schemes.specs.declared.lemmas.Lemmas.{Lemmas}
+use Rattle.grind_proof_kernel.specs.declared.claim.Claim.TheVariants.{Same}
+use Rattle.grind_proof_kernel.specs.declared.proof.Proof.{Proof}
+use Rattle.grind_classes.specs.Classes.{AreTogether}
+use Rattle.grind_congruence.specs.declared.edge.Edge.{Edge}
+use Rattle.grind_congruence.specs.Congruence.{Congruence}
+use Rattle.grind_explain.specs.declared.why.Why.{Why}
+use Rattle.grind_explain.specs.declared.why.Why.TheVariants as why
+use Rattle.grind_case_split.specs.declared.fact.Fact.{Fact}
+use Rattle.grind_case_split.specs.Congruences.{IsGiven, IsDenied}
+use Rattle.grind_case_split.specs.Facts.{IsFact, equates}
+use Rattle.grind_case_split.specs.Writing.{IsRooted, Claims}
+use Rattle.grind_case_split.specs.Building.{HasEnds}
+
+-- the line that is written for the number of the edge claims that its ends are equal
+pub record IsTold (proof : Proof) (whys : List Why) (edge : Edge) : Type 0 where
+  pub line : ℕ
+  pub why : slice_get whys edge.why ≡ Some (why.Line line)
+  pub claims : Claims proof line (Same edge.left edge.right)
+
+-- the goal gives the pair of the edge
+abbrev pub IsGivenEdge : GoalData → Edge → Type 0
+IsGivenEdge goal edge = IsGiven goal edge.left edge.right
+
+-- each edge is told and given, and the number 0 is for congruences
+pub record IsLedger (lemmas : Lemmas) (goal : GoalData) (proof : Proof) (whys : List Why) (given : List Edge) : Type 0 where
+  pub rooted : IsRooted lemmas goal proof
+  pub congruence : slice_get whys 0 ≡ Some why.Congruence
+  pub told : All (IsTold proof whys) given
+  pub pairs : All (IsGivenEdge goal) given
+  pub ends : All (HasEnds goal.terms.nodes) given
+
+-- the pair is that of an edge
+pub record HasPair (given : List Edge) (a b : ℕ) : Type 0 where
+  pub edge : Edge
+  pub among : Contains given edge
+  pub left : edge.left ≡ a
+  pub right : edge.right ≡ b
+
+-- no pair is lost
+pub record KeepsPairs (old new : List Edge) : Type 0 where
+  pub stays : (a b : ℕ) → HasPair old a b → HasPair new a b
+
+-- the pair that this source gives, if it does, is that of an edge
+pub record Covers (goal : GoalData) (given : List Edge) (source : ℕ) : Type 0 where
+  pub each : (fact : Fact) → IsFact goal fact → fact.source ≡ source → equates fact ≡ true
+      → HasPair given fact.reading.left fact.reading.right
+
+-- the same of all sources before the bound
+pub record CoversBelow (goal : GoalData) (given : List Edge) (bound : ℕ) : Type 0 where
+  pub each : (source : ℕ) → source < bound → Covers goal given source
+
+-- each pair that the goal gives is that of an edge
+pub record CoversAll (goal : GoalData) (given : List Edge) : Type 0 where
+  pub each : (a b : ℕ) → IsGiven goal a b → HasPair given a b
+
+-- the fact says that two terms are different, which are together
+pub record IsRefuted (goal : GoalData) (closure : Congruence) (fact : Fact) : Type 0 where
+  pub is : IsFact goal fact
+  pub differs : equates fact ≡ false
+  pub together : AreTogether closure.lists fact.reading.left fact.reading.right
+
+-- the source says of no two terms that are together that they are different
+pub record HoldsOut (goal : GoalData) (closure : Congruence) (source : ℕ) : Type 0 where
+  pub each : (fact : Fact) → IsFact goal fact → fact.source ≡ source → equates fact ≡ false
+      → AreTogether closure.lists fact.reading.left fact.reading.right → ⊥
+
+-- the same of all sources before the bound
+pub record HoldsOutBelow (goal : GoalData) (closure : Congruence) (bound : ℕ) : Type 0 where
+  pub each : (source : ℕ) → source < bound → HoldsOut goal closure source
+
+-- no pair that the goal denies is together
+pub record NoneRefuted (goal : GoalData) (closure : Congruence) : Type 0 where
+  pub each : (a b : ℕ) → IsDenied goal a b → AreTogether closure.lists a b → ⊥

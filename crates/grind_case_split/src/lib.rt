@@ -1,0 +1,15 @@
+//! Goals that congruence decides: where the hypotheses and the denied conclusion say that some terms are equal and others
+//! different, the goal is closed, with a typed proof, exactly where a pair that is denied follows from those that are given.
+#![tactic(auto)]
+
+mod building;
+mod closing;
+mod fact;
+mod given;
+pub mod laws;
+mod lines;
+pub mod plain;
+mod refuted;
+
+pub use laws::ground_goals;
+pub use plain::{Plain, solve_goal};

@@ -1,0 +1,4 @@
+pub mod LineLemmas
+pub mod ChainLemmas
+pub mod BoundLemmas
+pub mod KnownLemmas

@@ -1,0 +1,127 @@
+//! The explanation of one equality.
+ghost use Rattle.std.specs.Prelude.{ℕ, ◌<◌, ◌↔◌, IsTrue, IfOk, length};
+ghost use Rattle.grind_classes.specs.Classes.{AreTogether};
+ghost use Rattle.grind_congruence.specs.Congruence.{Fits};
+ghost use Rattle.grind_explain.specs.Explained.{IsReady, IsFewest, HasReasons, Tells, Appends, EndsWith};
+ghost use Rattle.grind_explain.specs.Deriving.{IsBound, IsLast};
+
+use crate::chain::chain;
+use crate::known::known_lines;
+use crate::lines::{reflexive, transitive};
+use crate::why::Why;
+use grind_congruence::Closure;
+use grind_outside::{List, Memory};
+use grind_proof_kernel::Proof;
+use grind_schemes::{Goal, Lemmas};
+use grind_term_graph::NodeId;
+use std::alloc::Global;
+
+/// Derives in a branch that two nodes of one class are equal, and answers the number of the line that claims it, which is
+/// then the last. `whys` has for each number of a fact why it holds; the least number of first edges that join the two
+/// nodes is to have reasons there.
+///
+/// # Errors
+///
+/// `Memory`. Some typed lines of the branch may stand behind the proof then.
+pub fn explain(
+    alloc: Global,
+    closure: &Closure,
+    whys: &List<Why>,
+    lemmas: &Lemmas,
+    goal: &Goal,
+    proof: &mut Proof,
+    branch: u32,
+    a: NodeId,
+    b: NodeId,
+) -> Result<u32, Memory>
+    requires together { AreTogether closure.now.lists a b }
+    requires fits { Fits closure.now.lists proof.old.terms.nodes }
+    requires ready { IsReady lemmas.now goal.now proof.old branch }
+    requires reasons { (count : ℕ) → IsFewest closure.now.edges count a b
+        → HasReasons proof.old branch closure.now.edges whys.now count }
+    ensures appends { Appends lemmas.now goal.now proof.old proof.new branch }
+    ensures ready { IsReady lemmas.now goal.now proof.new branch }
+    ensures last { IfOk result (λ number. EndsWith proof.new branch number a b) }
+{
+    let edges = closure.edges();
+    let places = closure.path(alloc, a, b)?;
+    let count = bound_of(places.as_slice());
+    let known = known_lines(
+        alloc,
+        closure,
+        whys.as_slice(),
+        lemmas,
+        goal,
+        proof,
+        branch,
+        count,
+    )?;
+    let number = chain(
+        alloc,
+        lemmas,
+        goal,
+        proof,
+        branch,
+        edges,
+        known.as_slice(),
+        places.as_slice(),
+        a,
+        b,
+    )?;
+    let last = at_the_end(alloc, lemmas, goal, proof, branch, number, a, b)?;
+    Ok(last)
+}
+
+// The last line, once it claims that two nodes are equal, which a line tells already.
+fn at_the_end(
+    alloc: Global,
+    lemmas: &Lemmas,
+    goal: &Goal,
+    proof: &mut Proof,
+    branch: u32,
+    number: u32,
+    a: NodeId,
+    b: NodeId,
+) -> Result<u32, Memory>
+    requires ready { IsReady lemmas.now goal.now proof.old branch }
+    requires within { b < length proof.old.terms.nodes }
+    requires tells { Tells proof.old branch number a b }
+    ensures appends { Appends lemmas.now goal.now proof.old proof.new branch }
+    ensures ready { IsReady lemmas.now goal.now proof.new branch }
+    ensures last { IfOk result (λ last. EndsWith proof.new branch last a b) }
+{
+    if is_last(proof, branch, number) {
+        return Ok(number);
+    }
+    let same = reflexive(alloc, lemmas, goal, proof, branch, b)?;
+    let last = transitive(alloc, lemmas, goal, proof, branch, number, same, a, b, b)?;
+    Ok(last)
+}
+
+// Whether the line of that number is the last, and stands in the branch itself.
+fn is_last(proof: &Proof, branch: u32, number: u32) -> bool
+    requires { number < length proof.now.lines }
+    ensures { IsTrue result ↔ IsLast proof.now branch number }
+{
+    let lines = proof.lines.as_slice();
+    if number as usize + 1 != lines.len() {
+        return false;
+    }
+    lines[number as usize].branch == branch
+}
+
+// The least number above all of these.
+fn bound_of(places: &[u32]) -> usize
+    ensures { IsBound places.now result }
+{
+    let mut bound = 0;
+    let mut rest = places;
+    while let Some((place, tail)) = rest.split_first() {
+        let above = *place as usize + 1;
+        if bound < above {
+            bound = above;
+        }
+        rest = tail;
+    }
+    bound
+}

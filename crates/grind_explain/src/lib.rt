@@ -1,0 +1,11 @@
+//! Equalities of a closure under congruence, explained: what edges join is derived by typed lines of a proof.
+#![tactic(auto)]
+
+mod chain;
+pub mod explanation;
+mod known;
+mod lines;
+pub mod why;
+
+pub use explanation::explain;
+pub use why::Why;
