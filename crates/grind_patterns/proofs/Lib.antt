@@ -2,3 +2,4 @@ pub mod CopyLemmas
 pub mod Along
 pub mod WalkLemmas
 pub mod BodyLemmas
+pub mod FormedLemmas

@@ -1,3 +1,4 @@
 pub mod Copies
 pub mod Patterns
 pub mod Walking
+pub mod PatternCases

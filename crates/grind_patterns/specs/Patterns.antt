@@ -3,7 +3,7 @@ use Rattle.std.specs.Prelude.{◌≡◌, ◌≢◌, ◌⊎◌, ℕ, List, [], �
 use Rattle.grind_term_graph.specs.declared.head.Head.{Head}
 use Rattle.grind_term_graph.specs.declared.head.Head.TheVariants.{Implies, Eq, Int, Fun}
 use Rattle.grind_schemes.specs.declared.scheme.Scheme.{Scheme, Var, Apply', Row_of-Scheme, end_of-Scheme, more_of-Scheme, items-the_row-Scheme}
-use Rattle.grind_schemes.specs.Schemes.{HasVar, IsHeadedByFunction}
+use Rattle.grind_schemes.specs.Schemes.{IsScheme, HasVar, IsHeadedByFunction}
 use Rattle.grind_schemes.specs.Theorems.{HoldsEach}
 use Rattle.grind_patterns.specs.declared.kind.Kind.{Kind}
 use Rattle.grind_patterns.specs.declared.kind.Kind.TheVariants.{Left, Right, Hyps, Concl, Written}
@@ -107,6 +107,11 @@ Chooses body Right chosen =
 Chooses body Hyps chosen = (hypotheses_of body ≢ []) × WalksEach [] (hypotheses_of body) chosen
 Chooses body Concl chosen = Walks [] (conclusion_of body) chosen
 Chooses body (Written terms) chosen = chosen ≡ terms
+
+-- the terms that are written out are well formed over these variables
+abbrev pub IsFormedKind : List ℕ → Kind → Type 0
+IsFormedKind vars (Written terms) = All (IsScheme vars) terms
+IsFormedKind vars _ = ⊤
 
 -- the kind chooses these, they are pattern terms, and each variable stands in one of them
 pub record AreChosen (vars : List ℕ) (body : Scheme) (kind : Kind) (chosen : List Scheme) : Type 0 where

@@ -1,8 +1,8 @@
 //! The patterns that an annotation gives a theorem.
 ghost use Rattle.std.specs.Prelude.{All, IfOk, IfSome};
-ghost use Rattle.grind_schemes.specs.Schemes.{IsHeadedByFunction};
+ghost use Rattle.grind_schemes.specs.Schemes.{IsScheme, IsHeadedByFunction};
 ghost use Rattle.grind_schemes.specs.Theorems.{HoldsEach};
-ghost use Rattle.grind_patterns.specs.Patterns.{PatternsOrNone};
+ghost use Rattle.grind_patterns.specs.Patterns.{PatternsOrNone, IsFormedKind};
 ghost use Rattle.grind_patterns.specs.Walking.{ChosenOrNone};
 
 use crate::body::{conclusion, equation, implication, walk_hypotheses};
@@ -25,6 +25,8 @@ pub fn patterns_of(
     kind: &Kind,
 ) -> Result<Option<List<Scheme>>, Memory>
     ensures patterns { IfOk result (λ found. PatternsOrNone vars.now body.now kind.now found) }
+    ensures formed { IsScheme vars.now body.now → IsFormedKind vars.now kind.now
+        → IfOk result (λ found. IfSome found (λ patterns. All (IsScheme vars.now) patterns)) }
     ensures headed { IfOk result (λ found. IfSome found (λ patterns. All IsHeadedByFunction patterns)) }
     ensures variables { IfOk result (λ found. IfSome found (λ patterns. HoldsEach vars.now patterns)) }
 {

@@ -1,0 +1,13 @@
+mod SortLists
+mod BinderLists
+mod FunTaking
+mod GoalNodes
+mod Interning
+mod GoalLaws
+mod GoalTaking
+mod Declared
+mod Underway
+mod DeclTaking
+mod LawLemmas
+mod SamePatterns
+mod TheoremTaking

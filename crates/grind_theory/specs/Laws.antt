@@ -7,10 +7,6 @@ use Rattle.grind_theory.specs.States.{State, opening_state}
 use Rattle.grind_theory.specs.Faults.{FaultOf}
 use Rattle.grind_theory.specs.Theories.{Takes, RefusedAt, IsTheoryOf}
 
--- at most one theory stands for declarations
-abbrev pub OneTheory : Type 0
-OneTheory = (ds : List Declaration) (a b : Theory) → IsTheoryOf ds a → IsTheoryOf ds b → a ≡ b
-
 -- a declaration has one first fault at most
 abbrev pub OneFault : Type 0
 OneFault = (state : State) (d : Declaration) (a b : Fault) → FaultOf state d a → FaultOf state d b → a ≡ b

@@ -2,6 +2,17 @@
 //! search, and the terms of each goal; or the first declaration that is bad, and what is wrong with it.
 #![tactic(auto)]
 
+mod binders;
+mod declarations;
 pub mod elaborate;
-pub mod limits;
+mod formulas;
+mod goals;
+pub mod laws;
+mod limits;
+mod patterns;
+mod sorts;
+mod theorems;
 pub mod theory;
+
+pub use limits::LimitKind;
+pub use theory::{Fault, Theory, TheoryRefusal};

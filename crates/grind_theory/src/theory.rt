@@ -1,5 +1,5 @@
 //! What the declarations of a file make, or what is wrong with them.
-use grind_outside::List;
+use grind_outside::{List, Memory};
 use grind_schemes::{Goal, Lemmas};
 use grind_signature::signature::Signature;
 
@@ -45,4 +45,24 @@ pub enum TheoryRefusal {
     },
     /// Memory was wanted, and there was none.
     Memory,
+}
+
+/// Why a declaration was not taken.
+#[derive(Clone, Copy, Debug, PartialEq, Eq)]
+pub(crate) enum DeclRefusal {
+    /// This is its first fault.
+    Faulty(Fault),
+    /// Memory was wanted, and there was none.
+    Memory,
+}
+
+impl From<Memory> for DeclRefusal {
+    ghost use Rattle.std.specs.Prelude.{◌≡◌};
+    ghost use Rattle.grind_theory.specs.declared.theory.DeclRefusal.{DeclRefusal};
+
+    ghost from_gives = { λ _ refusal. refusal ≡ DeclRefusal.Memory };
+
+    fn from(_want: Memory) -> DeclRefusal {
+        DeclRefusal::Memory
+    }
 }

@@ -5,6 +5,7 @@ use Rattle.grind_patterns.specs.Patterns.{IsPatternTerm}
 use Rattle.grind_patterns.specs.Walking.{ChosenOrNone}
 use Rattle.grind_patterns.proofs.Along.{fails}
 use Rattle.grind_patterns.proofs.BodyLemmas.{are_patterns, no_patterns, no_variables}
+use Rattle.grind_patterns.proofs.FormedLemmas.{patterns_formed}
 use Rattle.grind_patterns.proofs.patterns.patterns_of.Goals as goal
 
 pub returns-then-not-are_pattern_terms-clause-patterns :
@@ -36,3 +37,14 @@ returns-clause-patterns c =
 pub returns-clause-variables : goal.returns-clause-variables
 returns-clause-variables c =
     subst (HoldsEach c.args.vars.now) c.as_slice-2.ensures.value (c.hold_each.ensures.0 c.if-not-hold_each.false)
+
+pub returns-clause-formed : goal.returns-clause-formed
+returns-clause-formed c = λ body_formed kind_formed.
+    let found = subst (ChosenOrNone c.args.body.now c.args.kind.now) c.in-Some.is c.in_ok-terms.ensures in
+    let all = c.are_pattern_terms.ensures.0 c.if-not-are_pattern_terms.false in
+    let each = c.hold_each.ensures.0 c.if-not-hold_each.false in
+    patterns_formed c.args.vars.now c.args.body.now c.args.kind.now c.in-Some.terms
+    (are_patterns c.args.vars.now c.args.body.now c.args.kind.now c.in-Some.terms found
+      (subst (All IsPatternTerm) c.as_slice.ensures.value all)
+      (subst (HoldsEach c.args.vars.now) c.as_slice-2.ensures.value each))
+    body_formed kind_formed

@@ -1,0 +1,84 @@
+-- The declarations that the code keeps, as they stand in the text.
+use Rattle.std.specs.Prelude.{ℕ, List, [], ◌∷◌, map}
+use Rattle.std.specs.List.{AllByRecursion}
+use Rattle.grind_schemes.specs.Labels.{IsLabel}
+use Rattle.grind_grammar.specs.declared.syntax.Name.{Name}
+use Rattle.grind_grammar.specs.declared.syntax.Binder.{Binder}
+use Rattle.grind_grammar.specs.declared.syntax.Annot.{Annot}
+use Rattle.grind_grammar.specs.declared.syntax.Annot.TheVariants as annots
+use Rattle.grind_grammar.specs.declared.syntax.Tree.{Tree}
+use Rattle.grind_grammar.specs.declared.syntax.Decl.{Decl}
+use Rattle.grind_grammar.specs.declared.syntax.Decl.TheVariants as decls
+use Rattle.grind_grammar.specs.Terms.{Term, Bound, Annotation, Left, Right, Hyps, Concl, Pattern, Declaration, Sort, Fun, Theorem, Goal, Limit}
+use Rattle.grind_grammar.specs.Keeps.{IsPlaced, name_of, IsPlacedTree, term_of, KeepsDecls}
+use Rattle.grind_theory.specs.States.{bound_names}
+
+-- the names that a declaration declares and that reports print are labels
+abbrev pub HasLabels : Declaration → Type 0
+HasLabels (Sort name) = IsLabel name
+HasLabels (Fun name sorts result) = IsLabel name
+HasLabels (Theorem name bounds annotations body) = IsLabel name
+HasLabels (Goal name bounds hyps show) = IsLabel name × AllByRecursion IsLabel (bound_names bounds)
+HasLabels (Limit name value) = Unit {0}
+
+-- the code keeps some declarations, whose names are labels
+abbrev pub AreKept : List ℕ → List Decl → Type 0
+AreKept text kept = (ds : List Declaration) × KeepsDecls text kept ds × AllByRecursion HasLabels ds
+
+-- names and terms of the text
+abbrev pub names_of : List ℕ → List Name → List (List ℕ)
+names_of text names = map (name_of text) names
+
+abbrev pub terms_of : List ℕ → List Tree → List Term
+terms_of text trees = map (term_of text) trees
+
+-- binders
+abbrev pub bound_of : List ℕ → Binder → Bound
+bound_of text binder = record { name = name_of text binder.name; sort = name_of text binder.sort }
+
+abbrev pub bounds_of : List ℕ → List Binder → List Bound
+bounds_of text binders = map (bound_of text) binders
+
+abbrev pub IsPlacedBinder : List ℕ → Binder → Type 0
+IsPlacedBinder text binder = IsPlaced text binder.name × IsPlaced text binder.sort
+
+-- annotations
+abbrev pub annotation_of : List ℕ → Annot → Annotation
+annotation_of text annots.Left = Left
+annotation_of text annots.Right = Right
+annotation_of text annots.Hyps = Hyps
+annotation_of text annots.Concl = Concl
+annotation_of text (annots.Pattern trees) = Pattern (terms_of text trees)
+
+abbrev pub annotations_of : List ℕ → List Annot → List Annotation
+annotations_of text annots = map (annotation_of text) annots
+
+abbrev pub IsPlacedAnnot : List ℕ → Annot → Type 0
+IsPlacedAnnot text annots.Left = Unit {0}
+IsPlacedAnnot text annots.Right = Unit {0}
+IsPlacedAnnot text annots.Hyps = Unit {0}
+IsPlacedAnnot text annots.Concl = Unit {0}
+IsPlacedAnnot text (annots.Pattern trees) = AllByRecursion (IsPlacedTree text) trees
+
+-- a declaration
+abbrev pub declaration_of : List ℕ → Decl → Declaration
+declaration_of text (decls.Sort name) = Sort (name_of text name)
+declaration_of text (decls.Fun name args result) = Fun (name_of text name) (names_of text args) (name_of text result)
+declaration_of text (decls.Theorem name binders annots body) =
+    Theorem (name_of text name) (bounds_of text binders) (annotations_of text annots) (term_of text body)
+declaration_of text (decls.Goal name binders hyps show) =
+    Goal (name_of text name) (bounds_of text binders) (terms_of text hyps) (term_of text show)
+declaration_of text (decls.Limit name value) = Limit (name_of text name) value
+
+-- each name of it stands in the text
+abbrev pub IsPlacedDecl : List ℕ → Decl → Type 0
+IsPlacedDecl text (decls.Sort name) = IsPlaced text name
+IsPlacedDecl text (decls.Fun name args result) =
+    IsPlaced text name × AllByRecursion (IsPlaced text) args × IsPlaced text result
+IsPlacedDecl text (decls.Theorem name binders annots body) =
+    IsPlaced text name × AllByRecursion (IsPlacedBinder text) binders × AllByRecursion (IsPlacedAnnot text) annots
+    × IsPlacedTree text body
+IsPlacedDecl text (decls.Goal name binders hyps show) =
+    IsPlaced text name × AllByRecursion (IsPlacedBinder text) binders × AllByRecursion (IsPlacedTree text) hyps
+    × IsPlacedTree text show
+IsPlacedDecl text (decls.Limit name value) = IsPlaced text name

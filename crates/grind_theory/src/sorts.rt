@@ -1,0 +1,128 @@
+//! The declarations of sorts and functions.
+ghost use Rattle.std.specs.Prelude.{◌≡◌, ◌≢◌, ◌↔◌, All, IsTrue, IfOk, OnOk, Err};
+ghost use Rattle.grind_term_graph.specs.Terms.{prop};
+ghost use Rattle.grind_schemes.specs.Labels.{IsLabel};
+ghost use Rattle.grind_grammar.specs.Terms.{Sort, Fun};
+ghost use Rattle.grind_grammar.specs.Keeps.{IsPlaced, name_of};
+ghost use Rattle.grind_theory.specs.Kept.{names_of};
+ghost use Rattle.grind_theory.specs.Declaring.{HasFault, IsAdded, SortsFound};
+
+use crate::theory::{DeclRefusal, Fault};
+use grind_grammar::Name;
+use grind_outside::{List, Memory};
+use grind_signature::signature::{Signature, SignatureRefusal};
+use grind_term_graph::SortId;
+use std::alloc::Global;
+
+/// The bytes of a name.
+pub(crate) fn bytes_of(text: &[u8], name: Name) -> &[u8]
+    requires { IsPlaced text.now name }
+    ensures { result.now ≡ name_of text.now name }
+{
+    &text[name.start as usize..name.end as usize]
+}
+
+/// A name that is held already is a duplicate.
+pub(crate) fn refusal_of(refusal: SignatureRefusal) -> DeclRefusal
+    ensures { (fault : Fault) → result ≡ DeclRefusal.Faulty fault → (refusal ≡ SignatureRefusal.Duplicate) × (fault ≡ Fault.Duplicate) }
+{
+    match refusal {
+        SignatureRefusal::Duplicate => DeclRefusal::Faulty(Fault::Duplicate),
+        SignatureRefusal::Memory => DeclRefusal::Memory,
+    }
+}
+
+/// Declares a sort.
+pub(crate) fn declare_sort(
+    alloc: Global,
+    text: &[u8],
+    signature: &mut Signature,
+    name: Name,
+) -> Result<(), DeclRefusal>
+    requires placed { IsPlaced text.now name }
+    requires label { IsLabel (name_of text.now name) }
+    ensures ok { OnOk result (IsAdded signature.old (Sort (name_of text.now name)) signature.new) }
+    ensures faulty { (fault : Fault) → result ≡ Err (DeclRefusal.Faulty fault) → HasFault signature.old (Sort (name_of text.now name)) fault }
+{
+    match signature.declare_sort(alloc, bytes_of(text, name)) {
+        Ok(_) => Ok(()),
+        Err(refusal) => Err(refusal_of(refusal)),
+    }
+}
+
+/// The sorts of these names, or None exactly where one of them is no sort's.
+pub(crate) fn find_sorts(
+    alloc: Global,
+    text: &[u8],
+    signature: &Signature,
+    names: &[Name],
+) -> Result<Option<List<SortId>>, Memory>
+    requires placed { All (IsPlaced text.now) names.now }
+    ensures { IfOk result (SortsFound signature.now (names_of text.now names.now)) }
+{
+    let mut done = List::new(alloc);
+    let mut rest = names;
+    while let Some((name, later)) = rest.split_first() {
+        let Some(sort) = signature.find_sort(bytes_of(text, *name)) else {
+            return Ok(None);
+        };
+        done.push(sort)?;
+        rest = later;
+    }
+    Ok(Some(done))
+}
+
+/// Whether none of the sorts is that of formulas.
+pub(crate) fn has_no_formulas(sorts: &[SortId]) -> bool
+    ensures { IsTrue result ↔ All (λ sort. sort ≢ prop) sorts.now }
+{
+    for sort in sorts {
+        if *sort == SortId::PROP {
+            return false;
+        }
+    }
+    true
+}
+
+/// Declares a function.
+pub(crate) fn declare_fun(
+    alloc: Global,
+    text: &[u8],
+    signature: &mut Signature,
+    name: Name,
+    args: &[Name],
+    own: Name,
+) -> Result<(), DeclRefusal>
+    requires placed { IsPlaced text.now name }
+    requires args { All (IsPlaced text.now) args.now }
+    requires own { IsPlaced text.now own }
+    requires label { IsLabel (name_of text.now name) }
+    ensures ok { OnOk result (IsAdded signature.old (Fun (name_of text.now name) (names_of text.now args.now) (name_of text.now own)) signature.new) }
+    ensures faulty { (fault : Fault) → result ≡ Err (DeclRefusal.Faulty fault)
+        → HasFault signature.old (Fun (name_of text.now name) (names_of text.now args.now) (name_of text.now own)) fault }
+{
+    let bytes = bytes_of(text, name);
+    if signature.holds(bytes) {
+        return Err(DeclRefusal::Faulty(Fault::Duplicate));
+    }
+    let Some(sort) = signature.find_sort(bytes_of(text, own)) else {
+        return Err(DeclRefusal::Faulty(Fault::Unknown));
+    };
+    let found = match find_sorts(alloc, text, signature, args) {
+        Ok(found) => found,
+        Err(_) => return Err(DeclRefusal::Memory),
+    };
+    let Some(sorts) = found else {
+        return Err(DeclRefusal::Faulty(Fault::Unknown));
+    };
+    if !has_no_formulas(sorts.as_slice()) {
+        return Err(DeclRefusal::Faulty(Fault::Sort));
+    }
+    if args.len() > 16 {
+        return Err(DeclRefusal::Faulty(Fault::Size));
+    }
+    match signature.declare_fun(alloc, bytes, sorts, sort) {
+        Ok(_) => Ok(()),
+        Err(refusal) => Err(refusal_of(refusal)),
+    }
+}
