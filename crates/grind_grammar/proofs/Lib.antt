@@ -7,6 +7,7 @@ pub mod FileLemmas
 pub mod FitLemmas
 pub mod KeepsLemmas
 pub mod LawLemmas
+pub mod NameLemmas
 pub mod PieceLemmas
 pub mod ReadLemmas
 pub mod TermDone

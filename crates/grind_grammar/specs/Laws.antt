@@ -1,11 +1,11 @@
 -- What the grammar's laws say.
-use Rattle.std.specs.Prelude.{◌≡◌, ◌↔◌, ℕ, suc, map, All, Vec, ◌+◌, ◌≤◌, ◌⊎◌, List, Option, Some, None, Ok, Err}
+use Rattle.std.specs.Prelude.{◌≡◌, ◌↔◌, ℕ, suc, map, All, Contains, Vec, ◌+◌, ◌≤◌, ◌⊎◌, List, [], ◌∷◌, Option, Some, None, Ok, Err}
 use Rattle.std.specs.Global.{Global}
 use Rattle.grind_grammar.specs.declared.syntax.Name.{Name}
 use Rattle.grind_grammar.specs.declared.syntax.Tree.{Tree, Apply}
 use Rattle.grind_grammar.specs.Terms as terms
-use Rattle.grind_grammar.specs.Terms.{Term, Declaration, Fits, DeclarationFits}
-use Rattle.grind_grammar.specs.Lexemes.{Lexeme}
+use Rattle.grind_grammar.specs.Terms.{Term, Bound, Declaration, Sort, Fun, Theorem, Goal, Limit, Fits, DeclarationFits}
+use Rattle.grind_grammar.specs.Lexemes.{Lexeme, Word}
 use Rattle.grind_grammar.specs.Grammar.{Formula, Sum, Declares}
 use Rattle.grind_grammar.specs.Parentheses.{Within}
 use Rattle.grind_grammar.specs.Strength.{EndsFormula, EndsSum}
@@ -86,3 +86,17 @@ abbrev pub PlacesByParts : Type 0
 PlacesByParts =
     (text : List ℕ) (name : Name) (args : Vec Tree Global) →
     IsPlacedTree text (Apply name args) ↔ (IsPlaced text name × All (IsPlacedTree text) args.items)
+
+-- the names that a declaration declares: its own and those of its binders; a limit declares none
+abbrev pub declared_names : Declaration → List (List ℕ)
+declared_names (Sort name) = name ∷ []
+declared_names (Fun name sorts result) = name ∷ []
+declared_names (Theorem name bounds annotations body) = name ∷ map (λ (bound : Bound). bound.name) bounds
+declared_names (Goal name bounds hyps show) = name ∷ map (λ (bound : Bound). bound.name) bounds
+declared_names (Limit name value) = []
+
+-- each name that a declaration of the file declares is a word of the file
+abbrev pub NamesAreWords : Type 0
+NamesAreWords =
+    (ls : List Lexeme) (ds : List Declaration) (d : Declaration) (name : List ℕ) →
+    DeclarationsOf ls ds → Contains ds d → Contains (declared_names d) name → Contains ls (Word name)

@@ -1,5 +1,5 @@
 //! What holds of the grammar. Each law is a call without a body: who makes the call knows the law.
-ghost use Rattle.grind_grammar.specs.Laws.{DeclarationsAreComplete, DeclarationsAreSound, EachJudged, FaultsAreJudged, FormulasAreComplete, FormulasAreSound, NoneRefused, OneParse, OneRefusal, PiecesAreJudged, PlacesByParts, SumsAreComplete, SumsAreSound, TermsByParts};
+ghost use Rattle.grind_grammar.specs.Laws.{DeclarationsAreComplete, DeclarationsAreSound, EachJudged, FaultsAreJudged, FormulasAreComplete, FormulasAreSound, NamesAreWords, NoneRefused, OneParse, OneRefusal, PiecesAreJudged, PlacesByParts, SumsAreComplete, SumsAreSound, TermsByParts};
 ghost use Rattle.grind_grammar.specs.GrammarCases.{AndThenOr, DifferencesGoLeft, DotIsMissing, EquationsFirst, GoalWithHypotheses, ImplicationsGoRight, IntIsNoName, NegationOfEquation, NoDoubleEquation, OneLimit, ParenthesesAreTooMany, ParenthesesFit, SignsAreTooMany, SignsFit, TheoremWithPatterns, TwoSigns};
 
 /// Lexemes are one list of declarations at most; those that are declarations are not refused; and they are refused
@@ -39,6 +39,11 @@ pub fn pieces_are_judged()
 pub fn trees_by_parts()
     ensures terms { TermsByParts }
     ensures places { PlacesByParts }
+{}
+
+/// Each name that a declaration of a file declares is a word of the file.
+pub fn names_are_words()
+    ensures { NamesAreWords }
 {}
 
 /// Worked cases of the grammar.
