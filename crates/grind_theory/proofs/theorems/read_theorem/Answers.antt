@@ -42,8 +42,8 @@ returns-in-Ok-theorem_in-clause-ok c =
     theorem-added c.args.signature.now (name_of text c.args.name) (bounds_of text c.args.binders.now) (annotations_of text c.args.annots.now) (term_of text c.args.body.now)
     c.in-Ok.scope c.in-Ok.ensures.ok c.in-Ok-sorts_of_binders.vars c.in-Ok-sorts_of_binders.ensures asked c.in-Ok-theorem_in.theorem c.in-Ok-theorem_in.ensures.ok
 
-pub returns-in-Err-theorem_in-clause-faulty : goal.returns-in-Err-theorem_in-clause-faulty
-returns-in-Err-theorem_in-clause-faulty c = λ fault e.
+pub returns-clause-faulty : goal.returns-clause-faulty
+returns-clause-faulty c = λ fault e.
     let text = c.args.text.now in
     let f = subst (FaultOfTerms (Gives c.args.signature.now c.in-Ok.scope) c.as_slice-sorts.result.now (annotations_of text c.args.annots.now) (term_of text c.args.body.now))
     c.in_default.is c.fault_of_terms.ensures in
