@@ -11,3 +11,5 @@ mod DeclTaking
 mod LawLemmas
 mod SamePatterns
 mod TheoremTaking
+mod TheoremMaking
+mod TheoremNodes
