@@ -10,4 +10,5 @@ mod Underway
 mod DeclTaking
 mod LawLemmas
 mod SamePatterns
+mod AnnotationLaws
 mod TheoremTaking

@@ -1,3 +1,4 @@
+pub mod Annotating
 pub mod Asking
 pub mod Building
 pub mod Declaring
