@@ -10,6 +10,7 @@ mod Underway
 mod DeclTaking
 mod LawLemmas
 mod SamePatterns
+mod AnnotationLaws
 mod TheoremTaking
 mod TheoremMaking
 mod TheoremNodes
