@@ -11,3 +11,7 @@ mod DeclTaking
 mod LawLemmas
 mod SamePatterns
 mod TheoremTaking
+mod OneNames
+mod OnePatterns
+mod OneGoals
+mod OneTheory
