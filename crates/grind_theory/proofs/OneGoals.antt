@@ -1,10 +1,9 @@
 -- A declaration makes one goal, and limits of the same values are the same.
-use Rattle.std.specs.Prelude.{◌≡◌, ℕ, ◌≤◌, List, [], ◌∷◌, refl}
+use Rattle.std.specs.Prelude.{◌≡◌, ℕ, ◌≤◌, List, []}
 use mathlib.Core.HLevel.{is_prop→PathP}
 use Rattle.std.proofs.Math.Path.{PathP}
 use Rattle.std.specs.Coded.{le_prop}
-use Rattle.std.proofs.Common.{sym, ap, subst, ◌∙◌}
-use Rattle.grind_term_graph.specs.declared.node.Node.{Node}
+use Rattle.std.proofs.Common.{sym, ap, ◌∙◌}
 use Rattle.grind_term_graph.specs.Terms.{opening as opening_nodes}
 use Rattle.grind_schemes.specs.declared.scheme.Scheme.{Scheme}
 use Rattle.grind_schemes.specs.declared.limits.Limits.{Limits}

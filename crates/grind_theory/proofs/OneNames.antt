@@ -1,5 +1,5 @@
 -- Under binders that are new, a name stands for one thing at most.
-use Rattle.std.specs.Prelude.{◌≡◌, ◌≢◌, ℕ, ◌<◌, List, [], ◌∷◌, ◌++◌, map, slice_get, Contains, Some, refl}
+use Rattle.std.specs.Prelude.{◌≡◌, ◌≢◌, ℕ, ◌<◌, List, [], ◌∷◌, ◌++◌, map, slice_get, Contains, Some}
 use Rattle.std.specs.List.{AllPairs}
 use Rattle.std.specs.Option.{option_map}
 use Rattle.std.proofs.Common.{arith, sym, ap, subst, ◌∙◌, inl, inr, append_assoc}
@@ -10,13 +10,13 @@ use Rattle.std.proofs.lemmas.Option.{slice_get-map, slice_get_within, get_or_fro
 use Rattle.grind_term_graph.specs.declared.head.Head.TheVariants as heads
 use Rattle.grind_schemes.specs.declared.goal.Constant.{Constant}
 use Rattle.grind_grammar.specs.Terms.{Bound, Declaration, Sort, Fun, Theorem, Goal, Limit}
-use Rattle.grind_signature.specs.Signatures.{Function, SignatureData, function_names, IsHeld}
+use Rattle.grind_signature.specs.Signatures.{Function, SignatureData, function_names}
 use Rattle.grind_signature.proofs.NameLists.{Contains-slice_get}
 use Rattle.grind_resolution.specs.declared.meaning.BinderKind.{BinderKind}
 use Rattle.grind_resolution.specs.declared.meaning.Meaning.TheVariants as meanings
-use Rattle.grind_resolution.specs.Scopes.{ScopeData, binder_names, AreDistinct, AreApart, Given, given_data, binder_meaning, Gives}
+use Rattle.grind_resolution.specs.Scopes.{ScopeData, binder_names, AreDistinct, AreApart, given_data, binder_meaning, Gives}
 use Rattle.grind_resolution.specs.Laws.{IsSingle}
-use Rattle.grind_theory.specs.States.{State, sort_number, sort_numbers, bound_names, constants_of, scope_of, Names}
+use Rattle.grind_theory.specs.States.{State, sort_number, sort_numbers, bound_names, scope_of, Names}
 use Rattle.grind_theory.specs.Faults.{AreNewAfter, IsNew}
 use Rattle.grind_theory.specs.Theories.{Adds}
 use Rattle.grind_theory.proofs.BinderLists.{names_same, fresh-apart}

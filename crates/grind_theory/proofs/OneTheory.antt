@@ -1,5 +1,5 @@
 -- Declarations make at most one theory.
-use Rattle.std.specs.Prelude.{◌≡◌, ℕ, ℤ, pos, List, [], ◌∷◌, ◌++◌, refl}
+use Rattle.std.specs.Prelude.{◌≡◌, ℕ, pos, List, [], ◌∷◌, ◌++◌, refl}
 use Rattle.std.specs.List.{AllZip}
 use Rattle.std.proofs.Common.{arith, sym, ap, subst, ◌∙◌}
 use Rattle.grind_schemes.specs.declared.scheme.Scheme.{Scheme}
@@ -8,12 +8,10 @@ use Rattle.grind_grammar.specs.Terms.{Term, Bound, Annotation, Declaration, Sort
 use Rattle.grind_signature.specs.Signatures.{SignatureData, with_sort, with_function, with_label}
 use Rattle.grind_resolution.specs.declared.meaning.BinderKind.TheVariants as kinds
 use Rattle.grind_resolution.specs.Laws.{OneScheme}
-use Rattle.grind_theory.specs.declared.limits.LimitKind.{LimitKind}
-use Rattle.grind_theory.specs.declared.theory.Theory.{Theory}
-use Rattle.grind_theory.specs.States.{State, state_data, opening_state, with_limit, sort_number, sort_numbers, bound_names, bound_sorts, scope_of, Names}
+use Rattle.grind_theory.specs.States.{State, opening_state, with_limit, sort_number, sort_numbers, bound_names, bound_sorts, scope_of, Names}
 use Rattle.grind_theory.specs.Faults.{AreNewAfter, IsNew, IsTheoremOf, IsGoalOf}
-use Rattle.grind_theory.specs.Theories.{Adds, TakesAll, IsTheoryOf, state_of}
-use Rattle.grind_theory.specs.Laws.{AreSameTheorems, AreSameTheories, OneTheory}
+use Rattle.grind_theory.specs.Theories.{Adds, TakesAll, state_of}
+use Rattle.grind_theory.specs.Laws.{AreSameTheorems, OneTheory}
 use Rattle.grind_theory.proofs.LawLemmas.{same_kind}
 use Rattle.grind_theory.proofs.OneNames.{FunctionsDiffer, new_single, stays_differ}
 use Rattle.grind_theory.proofs.OnePatterns.{one_patterns}
