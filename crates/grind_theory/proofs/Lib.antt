@@ -14,3 +14,7 @@ mod AnnotationLaws
 mod TheoremTaking
 mod TheoremMaking
 mod TheoremNodes
+mod OneNames
+mod OnePatterns
+mod OneGoals
+mod OneTheory
