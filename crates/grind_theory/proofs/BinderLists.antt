@@ -1,16 +1,16 @@
 -- Binders that are read one after another.
-use Rattle.std.specs.Prelude.{◌≡◌, ◌≢◌, ℕ, List, [], ◌∷◌, ◌++◌, All, Contains, map, position, Some, None, refl}
+use Rattle.std.specs.Prelude.{◌≡◌, ℕ, List, [], ◌∷◌, ◌++◌, Contains, position, Some, None, refl}
 use Rattle.std.specs.List.{AllByRecursion}
 use Rattle.std.specs.Str.{bytes_eq}
 use Rattle.std.proofs.lemmas.List.Elements.{All-from_recursion, All-contains}
 use Rattle.grind_resolution.specs.declared.meaning.BinderKind.{BinderKind}
-use Rattle.std.proofs.Common.{arith, sym, ap, subst, ◌∙◌, append_assoc}
+use Rattle.std.proofs.Common.{sym, ap, subst, ◌∙◌, append_assoc}
 use Rattle.std.proofs.lemmas.List.{append-nil, map-append}
 use Rattle.grind_schemes.specs.declared.goal.Constant.{Constant}
 use Rattle.grind_grammar.specs.Terms.{Bound}
 use Rattle.grind_signature.specs.Signatures.{SignatureData, IsHeld}
 use Rattle.grind_resolution.specs.Scopes.{binder_names, AreApart}
-use Rattle.grind_theory.specs.States.{sort_number, bound_names, bound_sorts, constant_of, constants_of, scope_of}
+use Rattle.grind_theory.specs.States.{bound_names, bound_sorts, constant_of, constants_of, scope_of}
 use Rattle.grind_theory.specs.Faults.{AreNewAfter, AreSorts}
 use Rattle.grind_theory.proofs.SortLists.{found_number, found_sort, no_sort}
 

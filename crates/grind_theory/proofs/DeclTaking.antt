@@ -1,6 +1,6 @@
 -- One declaration that the code keeps: what it leads to, and its fault.
 use Rattle.std.specs.Prelude.{◌≡◌, ℕ, List, [], ◌∷◌, ◌++◌, Result, Ok, Err, OnOk}
-use Rattle.std.proofs.Common.{arith, sym, ap, subst, ◌∙◌}
+use Rattle.std.proofs.Common.{sym, ap, subst, ◌∙◌}
 use Rattle.grind_schemes.specs.declared.limits.Limits.{Limits}
 use Rattle.grind_schemes.specs.Goals.{GoalData}
 use Rattle.grind_schemes.specs.Theorems.{TheoremData}
@@ -11,7 +11,6 @@ use Rattle.grind_theory.specs.declared.declarations.Building.{Building}
 use Rattle.grind_theory.specs.declared.limits.LimitKind.{LimitKind}
 use Rattle.grind_theory.specs.declared.theory.Fault.{Fault}
 use Rattle.grind_theory.specs.declared.theory.Fault.TheVariants as faults
-use Rattle.grind_theory.specs.declared.theory.TheoryRefusal.{TheoryRefusal}
 use Rattle.grind_theory.specs.declared.theory.TheoryRefusal.TheVariants.{Bad}
 use Rattle.grind_theory.specs.States.{state_data, limits_data}
 use Rattle.grind_theory.specs.Faults.{FaultOf}

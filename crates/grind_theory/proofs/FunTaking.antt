@@ -1,18 +1,14 @@
 -- The declaration of a function: what it adds, and which fault it has.
-use Rattle.std.specs.Prelude.{◌≡◌, ◌≢◌, ◌↔◌, ℕ, ◌<◌, ◌≤◌, List, [], ◌∷◌, Bool, All, Contains, IsTrue, length, map, position, Result, Err, Option, Some, None, refl}
-use Rattle.std.specs.List.{AllByRecursion}
+use Rattle.std.specs.Prelude.{◌≡◌, ◌≢◌, ◌↔◌, ℕ, ◌<◌, ◌≤◌, List, [], ◌∷◌, Bool, All, Contains, IsTrue, length, position, Result, Err, Option, Some, None, refl}
 use Rattle.std.specs.Str.{bytes_eq}
 use Rattle.std.proofs.Common.{arith, sym, ap, subst, ◌∙◌}
 use Rattle.std.proofs.lemmas.List.Elements.{All-cons, All-from_recursion, recursion_from_All}
-use Rattle.std.proofs.lemmas.List.{length-map}
 use Rattle.std.proofs.lemmas.Option.{slice_get_within}
 use Rattle.grind_term_graph.specs.Terms.{prop}
-use Rattle.grind_schemes.specs.Goals.{GoalData}
-use Rattle.grind_schemes.specs.Theorems.{TheoremData}
 use Rattle.grind_grammar.specs.Terms.{Declaration, Fun}
 use Rattle.grind_grammar.specs.declared.syntax.Name.{Name}
-use Rattle.grind_signature.specs.Signatures.{Function, SignatureData, IsHeld, with_function}
-use Rattle.grind_signature.proofs.NameLists.{slice_get-position, Contains-slice_get, absent-position}
+use Rattle.grind_signature.specs.Signatures.{SignatureData, IsHeld, with_function}
+use Rattle.grind_signature.proofs.NameLists.{slice_get-position, absent-position}
 use Rattle.grind_theory.specs.declared.theory.Fault.{Fault}
 use Rattle.grind_theory.specs.declared.theory.Fault.TheVariants as faults
 use Rattle.grind_theory.specs.declared.theory.DeclRefusal.{DeclRefusal}

@@ -1,30 +1,28 @@
 -- What holds of the terms of a goal, and which goal they make.
-use Rattle.std.specs.Prelude.{◌≡◌, ◌≢◌, ℕ, ◌<◌, ◌≤◌, List, [], ◌∷◌, ◌++◌, length, map, All, Some, refl}
+use Rattle.std.specs.Prelude.{◌≡◌, ◌≢◌, ℕ, ◌<◌, ◌≤◌, List, [], ◌∷◌, length, All}
 use Rattle.std.specs.List.{AllPairs, AllByRecursion}
 use Rattle.std.proofs.Common.{arith, sym, ap, subst, ◌∙◌}
 use Rattle.std.proofs.lemmas.List.{length-map, get_or-map}
-use Rattle.std.proofs.lemmas.List.Elements.{All-cons, All-from_recursion, recursion_from_All}
+use Rattle.std.proofs.lemmas.List.Elements.{All-cons, recursion_from_All}
 use Rattle.grind_term_graph.specs.declared.node.Node.{Node}
-use Rattle.grind_term_graph.specs.Terms.{Terms, prop, sort_at, opening as opening_nodes}
+use Rattle.grind_term_graph.specs.Terms.{Terms, prop, opening as opening_nodes}
 use Rattle.grind_schemes.specs.declared.goal.Constant.{Constant}
 use Rattle.grind_schemes.specs.declared.scheme.Scheme.{Scheme}
 use Rattle.grind_schemes.specs.Schemes.{IsScheme}
 use Rattle.grind_schemes.specs.Labels.{IsLabel}
-use Rattle.grind_schemes.specs.Goals.{GoalData, goal_data, IsFormula, IsGoal}
+use Rattle.grind_schemes.specs.Goals.{goal_data, IsFormula, IsGoal}
 use Rattle.grind_schemes.specs.Instances.{interned, BeginsWith}
 use Rattle.grind_schemes.proofs.InstanceLemmas.{interned-grows, BeginsWith-refl, BeginsWith-trans, BeginsWith-length, sort_at-grows}
 use Rattle.grind_grammar.specs.Terms.{Term}
 use Rattle.grind_signature.specs.Signatures.{SignatureData, IsDeclared}
 use Rattle.grind_resolution.specs.declared.meaning.BinderKind.TheVariants as kinds
 use Rattle.grind_resolution.specs.Scopes.{ScopeData, scope_data, variable_sorts, sorts_of_variables, binder_names, Gives, Given}
-use Rattle.grind_resolution.specs.Sorting.{HasSort}
 use Rattle.grind_resolution.specs.Resolved.{StandsFor}
 use Rattle.grind_resolution.specs.Same.{AreSame}
 use Rattle.grind_resolution.specs.Laws.{IsSingle}
 use Rattle.grind_theory.specs.Faults.{IsFormulaTerm, StandForEach, interned_each, most_nodes}
-use Rattle.grind_theory.specs.Theories.{IsGoalDeclared}
-use Rattle.grind_theory.specs.Declaring.{IsPutAs, IsOver, ArePutAs, AreOver, AreGoalTerms, AreTooMany}
-use Rattle.grind_theory.proofs.Interning.{each-same, each-grows}
+use Rattle.grind_theory.specs.Declaring.{IsOver, ArePutAs, AreOver, AreGoalTerms, AreTooMany}
+use Rattle.grind_theory.proofs.Interning.{each-same}
 use Rattle.grind_theory.proofs.GoalNodes.{AreWell, IsPut, term-puts, all_alike, opening-well}
 
 -- a goal has no variables

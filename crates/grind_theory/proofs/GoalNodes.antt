@@ -1,5 +1,5 @@
 -- The nodes that the formulas of a goal make are declared.
-use Rattle.std.specs.Prelude.{◌≡◌, ◌≢◌, ℕ, ◌<◌, Bool, true, false, List, [], ◌∷◌, ◌++◌, length, map, All, Contains, Some, refl, slice_get}
+use Rattle.std.specs.Prelude.{◌≡◌, ℕ, ◌<◌, Bool, true, false, List, [], ◌∷◌, ◌++◌, length, map, All, Contains, Some, refl}
 use Rattle.std.specs.List.{list_any, AllPairs}
 use Rattle.std.proofs.Common.{arith, sym, ap, subst, ◌∙◌, inl, inr}
 use Rattle.std.proofs.lemmas.List.{length-append}
@@ -13,7 +13,7 @@ use Rattle.grind_term_graph.specs.Placed.{placed, node_eq}
 use Rattle.grind_term_graph.proofs.Placing.{placed-present, placed-absent, list_any-decides, slice_get-placed, placed-grows}
 use Rattle.grind_term_graph.proofs.Tables.{sorts-append, sort_at-slice_get}
 use Rattle.grind_schemes.specs.declared.goal.Constant.{Constant}
-use Rattle.grind_schemes.specs.declared.scheme.Scheme.{Scheme, Apply}
+use Rattle.grind_schemes.specs.declared.scheme.Scheme.{Scheme}
 use Rattle.grind_schemes.specs.Goals.{AreAlike}
 use Rattle.grind_schemes.specs.Instances.{node_of, interned, BeginsWith}
 use Rattle.grind_schemes.specs.InstanceRows.{interned_list, interned_at}
@@ -25,8 +25,7 @@ use Rattle.grind_grammar.specs.declared.syntax.Binary.TheVariants as binaries
 use Rattle.grind_grammar.specs.Terms.{Term, Row, True, False, Number, Apply as Named, One, Two, none, more}
 use Rattle.grind_signature.specs.Signatures.{Function, SignatureData, IsDeclaredAs, IsDeclared}
 use Rattle.grind_resolution.specs.declared.meaning.BinderKind.TheVariants as kinds
-use Rattle.grind_resolution.specs.declared.meaning.Meaning.TheVariants as meanings
-use Rattle.grind_resolution.specs.Scopes.{Given, given_data, scope_data, binder_meaning, Gives}
+use Rattle.grind_resolution.specs.Scopes.{Given, scope_data, Gives}
 use Rattle.grind_resolution.specs.Sorting.{HasSort, HaveSorts, unary_sort, binary_sort}
 use Rattle.grind_resolution.specs.Resolved.{IsMade, IsMeant, IsUnary, IsBinary, StandsFor, StandForRow}
 use Rattle.grind_resolution.specs.Laws.{IsSingle}

@@ -1,10 +1,8 @@
 -- The declaration of a goal: which fault it has.
-use Rattle.std.specs.Prelude.{◌≡◌, ℕ, ◌<◌, ◌≤◌, List, [], ◌∷◌, length, Some, None}
-use Rattle.std.specs.List.{AllByRecursion}
-use Rattle.std.proofs.Common.{arith, sym, ap, subst, ◌∙◌}
+use Rattle.std.specs.Prelude.{ℕ, List, length, None}
+use Rattle.std.proofs.Common.{arith, ap, subst}
 use Rattle.grind_term_graph.specs.declared.node.Node.{Node}
-use Rattle.grind_schemes.specs.Goals.{GoalData}
-use Rattle.grind_grammar.specs.Terms.{Term, Bound, Declaration, Goal}
+use Rattle.grind_grammar.specs.Terms.{Term, Bound, Goal}
 use Rattle.grind_signature.specs.Signatures.{SignatureData}
 use Rattle.grind_resolution.specs.declared.meaning.BinderKind.TheVariants as kinds
 use Rattle.grind_resolution.specs.Scopes.{ScopeData, Gives}

@@ -1,6 +1,6 @@
 -- Laws of declarations: one fault, and one refusal.
-use Rattle.std.specs.Prelude.{◌≡◌, ◌≢◌, ℕ, suc, pos, ◌<◌, List, [], ◌∷◌, ◌++◌, Contains, length, nat_eq, if◌then◌else◌, refl}
-use Rattle.std.proofs.Common.{arith, sym, ap, subst, ◌∙◌}
+use Rattle.std.specs.Prelude.{◌≡◌, ℕ, suc, List, [], ◌∷◌, ◌++◌, length, nat_eq, if◌then◌else◌, refl}
+use Rattle.std.proofs.Common.{sym, ap, subst, ◌∙◌}
 use Rattle.grind_schemes.specs.Theorems.{theorem_data}
 use Rattle.grind_grammar.specs.Terms.{Declaration, Sort, Fun, Theorem, Goal, Limit}
 use Rattle.grind_signature.specs.Signatures.{SignatureData, with_sort, with_function, with_label}
@@ -8,10 +8,9 @@ use Rattle.grind_theory.specs.declared.limits.LimitKind.{LimitKind}
 use Rattle.grind_theory.specs.declared.limits.LimitKind.TheVariants as limits
 use Rattle.grind_theory.specs.declared.theory.Fault.{Fault}
 use Rattle.grind_theory.specs.declared.theory.Fault.TheVariants as faults
-use Rattle.grind_theory.specs.declared.theory.Theory.{Theory}
 use Rattle.grind_theory.specs.States.{State, state_data, opening_state, opening_limits, limit_name, with_limit, sort_number, sort_numbers, bound_sorts}
 use Rattle.grind_theory.specs.Faults.{IsPatterned, IsSmall, FaultOf}
-use Rattle.grind_theory.specs.Theories.{Adds, Takes, TakesAll, RefusedAt, here, later, state_of}
+use Rattle.grind_theory.specs.Theories.{Adds, TakesAll, RefusedAt, here, later, state_of}
 use Rattle.grind_theory.specs.Laws.{OneFault, NoneFaulty, EachJudged, NoneRefused, OneRefusal}
 
 pub one_fault : OneFault

@@ -1,15 +1,14 @@
 -- The patterns that an annotation gives do not rest on the room that the lists of a scheme have.
-use Rattle.std.specs.Prelude.{◌≡◌, ◌≢◌, ◌⊎◌, ℕ, List, [], ◌∷◌, ◌++◌, Option, Some, None, All, ⊤, refl}
-use Rattle.std.proofs.Common.{arith, sym, ap, subst, ◌∙◌, inl, inr}
+use Rattle.std.specs.Prelude.{◌≡◌, ℕ, List, [], ◌∷◌, ◌++◌, Option, Some, None, ⊤, refl}
+use Rattle.std.proofs.Common.{sym, subst, ◌∙◌, inl, inr}
 use Rattle.grind_term_graph.specs.declared.head.Head.{Head}
 use Rattle.grind_term_graph.specs.declared.head.Head.TheVariants.{True, False, Eq, Const, Fun, Not, And, Or, Implies, Le, Int, Add, Neg, Mul}
 use Rattle.grind_schemes.specs.declared.scheme.Scheme.{Scheme, Var, Apply', Row_of-Scheme, end_of-Scheme, more_of-Scheme, items-the_row-Scheme}
-use Rattle.grind_schemes.specs.Theorems.{HoldsEach}
 use Rattle.grind_resolution.specs.Same.{AreSame, AreSameRows}
 use Rattle.grind_patterns.specs.declared.kind.Kind.{Kind}
 use Rattle.grind_patterns.specs.declared.kind.Kind.TheVariants.{Left, Right, Hyps, Concl, Written}
 use Rattle.grind_patterns.specs.Copies.{IsCopy, AreCopies, AreCopiesRow}
-use Rattle.grind_patterns.specs.Patterns.{HasUncovered, IsPatternTerm, TakesAt, Walks, WalksRow, WalksEach, if_implication, hypotheses_of, hypotheses_of_row, conclusion_or, conclusion_of, conclusion_of_row, IsEquation, Chooses, AreChosen}
+use Rattle.grind_patterns.specs.Patterns.{HasUncovered, TakesAt, Walks, WalksRow, WalksEach, if_implication, hypotheses_of, hypotheses_of_row, conclusion_or, conclusion_of, conclusion_of_row, IsEquation, Chooses, AreChosen}
 use Rattle.grind_patterns.proofs.WalkLemmas.{IsCopy-sym, AreCopies-sym, HasVar-copy, HasUncovered-copies, IsPatternTerm-copy}
 use Rattle.grind_patterns.proofs.CopyLemmas.{AreCopies-append}
 use Rattle.grind_patterns.proofs.BodyLemmas.{patterns_copied, holds_copied}

@@ -1,6 +1,6 @@
 -- The theorem of a body and its lists of patterns.
 use Rattle.std.specs.Prelude.{◌≡◌, ◌↔◌, ℕ, ◌<◌, List, [], ◌∷◌, length, All, Some, None, refl}
-use Rattle.std.proofs.Common.{arith, sym, ap, subst, ◌∙◌}
+use Rattle.std.proofs.Common.{arith, sym, subst}
 use Rattle.std.proofs.lemmas.List.{length-map}
 use Rattle.grind_term_graph.specs.Terms.{prop}
 use Rattle.grind_schemes.specs.declared.scheme.Scheme.{Scheme}

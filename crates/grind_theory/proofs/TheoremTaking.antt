@@ -1,5 +1,5 @@
 -- The declaration of a theorem: which fault it has, and what it adds.
-use Rattle.std.specs.Prelude.{◌≡◌, ℕ, ◌<◌, ◌≤◌, List, length, Some, None, refl, [], ◌∷◌, ◌++◌}
+use Rattle.std.specs.Prelude.{◌≡◌, ℕ, ◌<◌, ◌≤◌, List, length, None, refl, [], ◌∷◌, ◌++◌}
 use Rattle.std.proofs.Common.{sym, ap, subst, ◌∙◌}
 use Rattle.std.proofs.lemmas.List.{length-map}
 use Rattle.grind_schemes.specs.declared.scheme.Scheme.{Scheme}
@@ -10,11 +10,11 @@ use Rattle.grind_resolution.specs.declared.meaning.BinderKind.TheVariants as kin
 use Rattle.grind_resolution.specs.Scopes.{ScopeData, Given, Gives, binder_sorts, variable_sorts}
 use Rattle.grind_theory.specs.declared.theory.Fault.{Fault}
 use Rattle.grind_theory.specs.declared.theory.Fault.TheVariants as faults
-use Rattle.grind_theory.specs.States.{State, state_data, scope_of, constants_of, sort_number, sort_numbers, bound_sorts, Names}
+use Rattle.grind_theory.specs.States.{state_data, constants_of, sort_number, sort_numbers, bound_sorts, Names}
 use Rattle.grind_theory.specs.Faults.{IsTheoremOf}
 use Rattle.grind_theory.specs.Asking.{FaultOfTerms}
 use Rattle.grind_theory.specs.Declaring.{HasFault, FaultOfBinders, IsOpened, IsTheoremAdded}
-use Rattle.grind_theory.specs.Theorems.{HasPatterns, IsSmallTheorem, IsTheoremIn, FaultOfTheorem}
+use Rattle.grind_theory.specs.Theorems.{HasPatterns, IsTheoremIn, FaultOfTheorem}
 
 -- the variables have the sorts of their binders
 pub sorts_same : (s : SignatureData) (bounds : List Bound) → binder_sorts (constants_of s bounds) ≡ sort_numbers s (bound_sorts bounds)

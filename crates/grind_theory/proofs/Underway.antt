@@ -1,7 +1,7 @@
 -- Declarations that are taken one after another.
-use Rattle.std.specs.Prelude.{◌≡◌, ℕ, suc, ◌+◌, List, [], ◌∷◌, All, length, map, refl}
+use Rattle.std.specs.Prelude.{◌≡◌, ℕ, suc, ◌+◌, List, [], ◌∷◌, map, refl}
 use Rattle.std.specs.List.{AllByRecursion}
-use Rattle.std.proofs.Common.{arith, sym, ap, subst, ◌∙◌}
+use Rattle.std.proofs.Common.{arith, sym, ap, subst}
 use Rattle.grind_grammar.specs.declared.syntax.Name.{Name}
 use Rattle.grind_grammar.specs.declared.syntax.Binder.{Binder}
 use Rattle.grind_grammar.specs.declared.syntax.Annot.{Annot}

@@ -1,5 +1,5 @@
 -- The declarations that the code keeps, as they stand in the text.
-use Rattle.std.specs.Prelude.{ℕ, List, [], ◌∷◌, map}
+use Rattle.std.specs.Prelude.{ℕ, List, map}
 use Rattle.std.specs.List.{AllByRecursion}
 use Rattle.grind_schemes.specs.Labels.{IsLabel}
 use Rattle.grind_grammar.specs.declared.syntax.Name.{Name}

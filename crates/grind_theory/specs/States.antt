@@ -1,5 +1,5 @@
 -- What is declared so far, and what the sorts, binders and limits of a declaration stand for.
-use Rattle.std.specs.Prelude.{ℕ, List, [], ◌∷◌, map, position, unwrap_or, codes}
+use Rattle.std.specs.Prelude.{ℕ, List, [], map, position, unwrap_or, codes}
 use Rattle.std.specs.Str.{bytes_eq}
 use Rattle.grind_schemes.specs.declared.goal.Constant.{Constant}
 use Rattle.grind_schemes.specs.declared.limits.Limits.{Limits}

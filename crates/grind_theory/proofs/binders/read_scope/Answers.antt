@@ -1,6 +1,5 @@
 use Rattle.std.proofs.Common.{sym, ap, subst, ◌∙◌, ◌≡◌, ◌∷◌, All}
 use Rattle.std.proofs.lemmas.List.Elements.{All-rest, All-head}
-use Rattle.grind_grammar.specs.Keeps.{name_of}
 use Rattle.grind_resolution.specs.Scopes.{ScopeData}
 use Rattle.grind_theory.specs.Kept.{bound_of, bounds_of, IsPlacedBinder}
 use Rattle.grind_theory.proofs.BinderLists.{scoping-next, scoping-none}

@@ -1,4 +1,4 @@
-use Rattle.std.proofs.Common.{arith, sym, ap, subst, ◌∙◌, ◌≡◌, ◌∷◌, ◌+◌, All, length, map, Err}
+use Rattle.std.proofs.Common.{arith, sym, ap, subst, ◌≡◌, ◌∷◌, All, length, map, Err}
 use Rattle.std.specs.List.{AllByRecursion}
 use Rattle.std.proofs.lemmas.List.Elements.{All-from_recursion, All-rest}
 use Rattle.grind_theory.specs.States.{opening_state}

@@ -1,7 +1,6 @@
 use Rattle.std.proofs.Common.{sym, ap, subst, Err}
-use Rattle.grind_schemes.specs.Goals.{goal_data}
 use Rattle.grind_schemes.specs.Labels.{IsLabel}
-use Rattle.grind_grammar.specs.Keeps.{term_of, name_of}
+use Rattle.grind_grammar.specs.Keeps.{term_of}
 use Rattle.grind_resolution.specs.Scopes.{Gives}
 use Rattle.grind_theory.specs.Faults.{IsFormulaTerm}
 use Rattle.grind_theory.specs.Theories.{IsGoalDeclared}

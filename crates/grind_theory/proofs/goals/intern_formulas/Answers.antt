@@ -1,4 +1,4 @@
-use Rattle.std.proofs.Common.{sym, ap, subst, ◌∙◌, ◌≡◌, ◌∷◌, ◌<◌, All, length, Err}
+use Rattle.std.proofs.Common.{ap, subst, ◌∙◌, ◌≡◌, ◌∷◌, ◌<◌, length, Err}
 use Rattle.std.proofs.lemmas.List.Elements.{All-rest}
 use Rattle.grind_term_graph.specs.Terms.{prop}
 use Rattle.grind_grammar.specs.Keeps.{IsPlacedTree, term_of}

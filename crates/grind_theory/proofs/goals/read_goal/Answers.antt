@@ -1,4 +1,4 @@
-use Rattle.std.proofs.Common.{sym, ap, subst, ◌∙◌, Err, List, None}
+use Rattle.std.proofs.Common.{sym, ap, subst, ◌∙◌, Err}
 use Rattle.std.specs.List.{AllByRecursion}
 use Rattle.grind_schemes.specs.Labels.{IsLabel}
 use Rattle.grind_grammar.specs.Terms.{Goal}

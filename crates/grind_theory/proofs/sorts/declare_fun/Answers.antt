@@ -1,4 +1,4 @@
-use Rattle.std.proofs.Common.{arith, sym, ap, subst, ◌∙◌, true≢false, ◌≡◌, ◌≢◌, ◌↔◌, ◌<◌, ◌≤◌, All, IsTrue, length}
+use Rattle.std.proofs.Common.{arith, sym, subst, ◌∙◌, true≢false, ◌≢◌, ◌↔◌, ◌<◌, ◌≤◌, All, IsTrue, length}
 use Rattle.grind_term_graph.specs.Terms.{prop}
 use Rattle.grind_grammar.specs.Terms.{Fun}
 use Rattle.grind_grammar.specs.Keeps.{name_of}

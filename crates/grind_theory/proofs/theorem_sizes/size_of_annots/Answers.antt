@@ -3,7 +3,6 @@ use Rattle.grind_theory.specs.Faults.{written, sizes, written_sizes}
 use Rattle.grind_theory.specs.Kept.{annotation_of, annotations_of}
 use Rattle.grind_theory.proofs.SortLists.{no_items}
 use Rattle.grind_theory.proofs.TheoremNodes.{size-next, size-end}
-
 use Rattle.grind_theory.proofs.theorem_sizes.size_of_annots.Goals as goal
 
 pub loop-annot-preserved : goal.loop-annot-preserved

@@ -1,4 +1,4 @@
-use Rattle.std.proofs.Common.{ap, subst, Err, None, ◌∙◌}
+use Rattle.std.proofs.Common.{ap, subst, Err, None}
 use Rattle.grind_grammar.specs.Keeps.{term_of, name_of}
 use Rattle.grind_resolution.specs.Scopes.{Gives}
 use Rattle.grind_theory.specs.Kept.{bounds_of, annotations_of}

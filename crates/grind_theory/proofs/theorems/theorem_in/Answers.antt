@@ -1,14 +1,13 @@
-use Rattle.std.proofs.Common.{◌≡◌, sym, ap, subst, ◌∙◌, refl, true≢false, All, IfSome, Err, None, Some, Option, List}
+use Rattle.std.proofs.Common.{◌≡◌, sym, subst, ◌∙◌, true≢false, All, IfSome, Some, Option, List}
 use Rattle.grind_term_graph.specs.Terms.{prop}
 use Rattle.grind_schemes.specs.declared.scheme.Scheme.{Scheme}
 use Rattle.grind_schemes.specs.Schemes.{scheme_sort, IsScheme, IsHeadedByFunction}
 use Rattle.grind_schemes.specs.Theorems.{HoldsEach, IsTheorem, theorem_data}
 use Rattle.grind_grammar.specs.Keeps.{term_of, name_of}
 use Rattle.grind_resolution.specs.Scopes.{Gives}
-use Rattle.grind_theory.specs.declared.theory.Fault.TheVariants as faults
 use Rattle.grind_theory.specs.Kept.{annotations_of}
 use Rattle.grind_theory.specs.Annotating.{ListsOrNone}
-use Rattle.grind_theory.specs.Theorems.{IsAnnotated, HasPatterns, IsTheoremIn, FaultOfTheorem, IsSmallTheorem}
+use Rattle.grind_theory.specs.Theorems.{IsAnnotated, HasPatterns, FaultOfTheorem}
 use Rattle.grind_theory.proofs.FunTaking.{same_Err, same_Faulty}
 use Rattle.grind_theory.proofs.TheoremMaking.{annotated-kept, kept-annotated, theorem-kept, no_lists, theorem-is}
 use Rattle.grind_theory.proofs.theorems.theorem_in.Goals as goal
@@ -21,8 +20,8 @@ returns-then-not-is_annotated-clause-faulty c = λ fault e.
     let body = term_of text c.args.body.now in
     subst (FaultOfTheorem gives c.args.vars annotations body) (same_Faulty _ _ (same_Err _ _ e))
     (λ scheme lists h.
-        let wanted = subst (λ v. IsAnnotated v annotations) (sym c.as_slice-sorts.ensures.value) h.wanted in
-        true≢false (sym (c.is_annotated.ensures.1 (kept-annotated text c.as_slice-sorts.result.now c.args.annots.now wanted)) ∙ c.if-not-is_annotated.true))
+    let wanted = subst (λ v. IsAnnotated v annotations) (sym c.as_slice-sorts.ensures.value) h.wanted in
+    true≢false (sym (c.is_annotated.ensures.1 (kept-annotated text c.as_slice-sorts.result.now c.args.annots.now wanted)) ∙ c.if-not-is_annotated.true))
 
 pub lists_of_annots-requires-clause-formed : goal.lists_of_annots-requires-clause-formed
 lists_of_annots-requires-clause-formed c =
@@ -55,8 +54,7 @@ returns-then-not-is_small-clause-faulty c = λ fault e.
     let body = term_of text c.args.body.now in
     let given = subst (ListsOrNone gives c.as_slice-sorts.result.now c.in-Ok.scheme annotations) c.in-Some.is c.in-Ok-lists_of_annots.ensures.found in
     subst (λ v. FaultOfTheorem gives v annotations body fault) c.as_slice-sorts.ensures.value
-    (subst (FaultOfTheorem gives c.as_slice-sorts.result.now annotations body) (same_Faulty _ _ (same_Err _ _ e))
-    (
+    (subst (FaultOfTheorem gives c.as_slice-sorts.result.now annotations body) (same_Faulty _ _ (same_Err _ _ e)) (
       (
         c.in-Ok.scheme,
         c.in-Some.lists,
