@@ -1,9 +1,7 @@
 -- Annotations, step by step.
-use Rattle.std.proofs.Common.{◌≡◌, ◌≢◌, ℕ, zero, suc, ◌<◌, ◌≤◌, Bool, true, false, List, [], ◌∷◌, ◌++◌, length, Option, Some, None, refl, sym, ◌∙◌, ap, subst, rules, arith, append_assoc, codes}
-use Rattle.std.specs.Prelude.{if◌then◌else◌, map}
+use Rattle.std.proofs.Common.{◌≡◌, ℕ, zero, suc, ◌<◌, true, false, List, [], ◌∷◌, ◌++◌, length, Option, Some, None, refl, sym, ◌∙◌, ap, arith, append_assoc, codes}
 use Rattle.std.specs.Option.{option_map}
 use Rattle.std.specs.Str.{bytes_eq}
-use Rattle.std.proofs.lemmas.List.{map-append}
 use Rattle.grind_tokens.specs.declared.tokens.Sym.{Sym}
 use Rattle.grind_tokens.specs.declared.tokens.Sym.TheVariants as symbols
 use Rattle.grind_tokens.specs.declared.tokens.Token.{Token}
@@ -13,7 +11,7 @@ use Rattle.grind_grammar.specs.Reading.{Read, Reader, read, read_map, read_then,
 use Rattle.grind_syntax.specs.Places.{NoWord, NoSymbol}
 use Rattle.grind_syntax.specs.Annotated.{with_annotation, patterns_of, AnnotsSoFar}
 use Rattle.grind_syntax.proofs.Fronts.{lexemes_length}
-use Rattle.grind_syntax.proofs.Items.{then_none, then_read, map_none, map_read, map_map, map_same, map_gave}
+use Rattle.grind_syntax.proofs.Items.{map_none, map_read, map_map, map_same, map_gave}
 
 -- words
 

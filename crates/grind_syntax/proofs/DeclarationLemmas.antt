@@ -1,15 +1,15 @@
 -- Declarations, step by step.
-use Rattle.std.proofs.Common.{◌≡◌, ◌≢◌, ℕ, ℤ, zero, suc, ◌-◌, Bool, true, false, List, [], ◌∷◌, Option, Some, None, refl, sym, ◌∙◌, ap, arith, codes}
+use Rattle.std.proofs.Common.{◌≡◌, ℕ, ℤ, suc, true, false, List, [], ◌∷◌, Option, Some, None, refl, ◌∙◌, ap, codes}
 use Rattle.std.specs.Str.{bytes_eq}
 use Rattle.grind_tokens.specs.declared.tokens.Sym.TheVariants as symbols
-use Rattle.grind_grammar.specs.Terms.{Term, Bound, Annotation, Declaration, Sort, Fun, Theorem, Goal, Limit}
+use Rattle.grind_grammar.specs.Terms.{Term, Bound, Annotation, Sort, Fun, Theorem, Goal, Limit}
 use Rattle.grind_grammar.specs.Lexemes.{Lexeme, Word, Number, Symbol}
 use Rattle.grind_grammar.specs.Reading.{Read, Reader, read, read_map, read_then, symbol_at, closed, list_at, in_parentheses, sort_at, name_at, binders, annots, hyps, hyps_from, all_of, sum, formula, function_of, theorem_of, theorem_with, goal_of, goal_with, limit_of, declaration_of, declaration}
 use Rattle.grind_grammar.specs.Files.{depth_limit}
 use Rattle.grind_syntax.specs.Places.{NoWord, NoNumber}
 use Rattle.grind_syntax.specs.Levels.{level, level_over}
 use Rattle.grind_syntax.specs.declared.levels.Level.TheVariants as levels
-use Rattle.grind_syntax.proofs.Items.{then_none, then_read, map_none, map_read, map_gave, closed_none, closed_open, closed_read}
+use Rattle.grind_syntax.proofs.Items.{map_read, map_gave, closed_open, closed_read}
 
 -- the levels at which declarations read
 

@@ -1,9 +1,9 @@
 -- Pieces and files.
-use Rattle.std.proofs.Common.{◌≡◌, ◌≢◌, ℕ, zero, suc, ◌+◌, ◌<◌, ◌≤◌, Bool, true, false, List, [], ◌∷◌, ◌++◌, length, Option, Some, None, Ok, Err, All, refl, sym, ◌∙◌, ap, subst, arith, rules, append_assoc}
+use Rattle.std.proofs.Common.{◌≡◌, ◌≢◌, ℕ, suc, ◌+◌, ◌<◌, ◌≤◌, Bool, true, false, List, [], ◌∷◌, ◌++◌, length, Option, Some, None, Ok, Err, All, refl, sym, ◌∙◌, ap, subst, arith, append_assoc}
 use Rattle.std.specs.Prelude.{map, nat_le, ◌&&◌, take, drop, Result}
 use Rattle.std.proofs.lemmas.Bool.Decides.{nat_tests}
 use Rattle.std.proofs.lemmas.List.{map-append}
-use Rattle.std.proofs.lemmas.List.Elements.{All-nil, All-cons, All-head, All-tail, All-append}
+use Rattle.std.proofs.lemmas.List.Elements.{All-nil, All-cons, All-head, All-tail}
 use Rattle.grind_tokens.specs.Tokens.{IsPiece}
 use Rattle.grind_tokens.specs.declared.tokens.Sym.TheVariants as symbols
 use Rattle.grind_tokens.specs.declared.tokens.TokenKind.{TokenKind}
@@ -14,16 +14,16 @@ use Rattle.grind_grammar.specs.declared.syntax.Annot.TheVariants as annots
 use Rattle.grind_grammar.specs.declared.syntax.Decl.{Decl}
 use Rattle.grind_grammar.specs.declared.syntax.Decl.TheVariants as decls
 use Rattle.grind_grammar.specs.Terms.{Declaration}
-use Rattle.grind_grammar.specs.Lexemes.{Lexeme, Word, Number, Symbol, lexemes, lexeme, lexeme_between}
+use Rattle.grind_grammar.specs.Lexemes.{Lexeme, Symbol, lexemes, lexeme, lexeme_between}
 use Rattle.grind_grammar.specs.Keeps.{KeepsEach, KeepsTree, KeepsName, KeepsBound, KeepsAnnotation, KeepsDecl, KeepsDecls, name_of, term_of, IsPlaced, IsPlacedTree}
 use Rattle.grind_grammar.specs.Parentheses.{Within, open_after}
 use Rattle.grind_grammar.specs.Reading.{symbol_at, within, judged, whole, read, declaration}
 use Rattle.grind_grammar.specs.Files as files
 use Rattle.grind_grammar.specs.Files.{depth_limit, Fault, Syntax, TooDeep, IsDeclaration, IsFaulty, IsFaultyEnd, end_too_many_open, unended, DeclarationsOf, nothing, declared, RefusedAt, here, at_end, later}
-use Rattle.grind_syntax.specs.Places.{Placed, Past, bound_of, IsPlacedBound}
+use Rattle.grind_syntax.specs.Places.{Placed, bound_of, IsPlacedBound}
 use Rattle.grind_syntax.specs.Annotated.{annotation_of, IsPlacedAnnotation}
 use Rattle.grind_syntax.specs.KeptDeclarations.{declaration_kept, IsPlacedDeclaration}
-use Rattle.grind_syntax.specs.Pieces.{AreUndotted, BeginsWithDot, DotBehind, open_behind}
+use Rattle.grind_syntax.specs.Pieces.{AreUndotted, BeginsWithDot, open_behind}
 use Rattle.grind_syntax.specs.declared.parse.SyntaxRefusal.{SyntaxRefusal}
 use Rattle.grind_syntax.specs.declared.parse.SyntaxRefusal.TheVariants as refusals
 use Rattle.grind_syntax.specs.Refusals.{FileSoFar, IsRefusal, IsVerdict, IsEndRefusal}

@@ -1,11 +1,11 @@
 -- What stands at the front of lexemes, as the reading function says it.
-use Rattle.std.proofs.Common.{◌≡◌, ◌≢◌, ℕ, suc, Bool, true, false, List, [], ◌∷◌, length, Option, Some, None, refl, sym, ◌∙◌, ap, subst, rules, arith, eqb-true}
+use Rattle.std.proofs.Common.{◌≡◌, ℕ, suc, Bool, true, false, List, [], ◌∷◌, length, Some, None, refl, sym, ◌∙◌, ap, rules, arith, eqb-true}
 use Rattle.std.specs.Prelude.{if◌then◌else◌, nat_eq}
 use Rattle.grind_tokens.specs.declared.tokens.Sym.{Sym}
 use Rattle.grind_tokens.specs.declared.tokens.Sym.TheVariants as symbols
 use Rattle.grind_tokens.specs.declared.tokens.Token.{Token}
-use Rattle.grind_grammar.specs.Lexemes.{Lexeme, Word, Number, Symbol, lexemes, lexeme}
-use Rattle.grind_grammar.specs.Reading.{Read, read, symbol_number, is_symbol, symbol_at, is_name, is_sort, name_at, sort_at}
+use Rattle.grind_grammar.specs.Lexemes.{Lexeme, Word, Number, Symbol, lexemes}
+use Rattle.grind_grammar.specs.Reading.{read, symbol_number, is_symbol, symbol_at, is_name, is_sort, name_at, sort_at}
 use Rattle.grind_syntax.specs.Places.{NoWord}
 
 -- symbols have numbers of their own

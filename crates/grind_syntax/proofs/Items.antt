@@ -1,12 +1,9 @@
 -- Readings put together, and items with a separator between them.
-use Rattle.std.proofs.Common.{◌≡◌, ◌≢◌, ℕ, zero, suc, ◌<◌, ◌≤◌, List, [], ◌∷◌, ◌++◌, length, Option, Some, None, All, refl, sym, ◌∙◌, ap, subst, rules, arith, append_assoc}
-use Rattle.std.specs.Prelude.{map}
-use Rattle.std.specs.Option.{option_map}
-use Rattle.std.proofs.lemmas.List.Elements.{All-nil, All-cons, All-append}
+use Rattle.std.proofs.Common.{◌≡◌, ℕ, zero, suc, ◌<◌, List, [], ◌∷◌, ◌++◌, length, Some, None, refl, sym, ◌∙◌, ap, arith, append_assoc}
 use Rattle.grind_tokens.specs.declared.tokens.Sym.{Sym}
 use Rattle.grind_tokens.specs.declared.tokens.Sym.TheVariants as symbols
 use Rattle.grind_tokens.specs.declared.tokens.Token.{Token}
-use Rattle.grind_grammar.specs.Lexemes.{Lexeme, Word, Number, Symbol, lexemes, lexeme}
+use Rattle.grind_grammar.specs.Lexemes.{Lexeme, lexemes}
 use Rattle.grind_grammar.specs.Reading.{Read, Reader, read, read_map, read_then, symbol_at, closed, items, items_behind, list_at, in_parentheses, in_parentheses_from}
 use Rattle.grind_syntax.specs.Places.{Placed, Past, Behind, ItemsSoFar}
 use Rattle.grind_syntax.proofs.Fronts.{lexemes_length}

@@ -1,18 +1,17 @@
 -- Lists of names, sorts and bound variables.
-use Rattle.std.proofs.Common.{◌≡◌, ◌≢◌, ℕ, suc, ◌<◌, ◌≤◌, Bool, true, false, List, [], ◌∷◌, ◌++◌, length, Option, Some, None, All, refl, sym, ◌∙◌, ap, subst, rules, arith, append_assoc}
+use Rattle.std.proofs.Common.{◌≡◌, ℕ, Bool, true, false, List, [], ◌∷◌, ◌++◌, Option, Some, None, All, refl, sym, ◌∙◌, ap, subst, rules, append_assoc}
 use Rattle.std.specs.Prelude.{map, if◌then◌else◌}
 use Rattle.std.proofs.lemmas.List.{map-append}
-use Rattle.std.proofs.lemmas.List.Elements.{All-nil, All-cons, All-append, All-head, All-tail}
-use Rattle.grind_tokens.specs.declared.tokens.Sym.{Sym}
+use Rattle.std.proofs.lemmas.List.Elements.{All-nil, All-cons, All-append}
 use Rattle.grind_tokens.specs.declared.tokens.Sym.TheVariants as symbols
 use Rattle.grind_grammar.specs.declared.syntax.Name.{Name}
 use Rattle.grind_grammar.specs.declared.syntax.Binder.{Binder}
 use Rattle.grind_grammar.specs.Terms.{Bound}
 use Rattle.grind_grammar.specs.Lexemes.{Lexeme, Word, Number, Symbol}
 use Rattle.grind_grammar.specs.Grammar.{joined}
-use Rattle.grind_grammar.specs.Keeps.{IsPlaced, name_of}
-use Rattle.grind_grammar.specs.Reading.{Read, read, read_map, symbol_at, is_name, name_at, names, group, group_behind, sort_at, bounds_of, bound_to, list_at, binders}
-use Rattle.grind_syntax.specs.Places.{bound_of, IsPlacedBound}
+use Rattle.grind_grammar.specs.Keeps.{name_of}
+use Rattle.grind_grammar.specs.Reading.{read, read_map, symbol_at, is_name, name_at, names, group, group_behind, sort_at, bounds_of, list_at, binders}
+use Rattle.grind_syntax.specs.Places.{bound_of}
 use Rattle.grind_syntax.proofs.Items.{read_is, map_none, map_read, map_gave, parentheses_none, parentheses_open, closed_none, closed_open, closed_read}
 
 -- one more item, kept

@@ -1,10 +1,9 @@
 -- Operators at the front, and what stands between them.
-use Rattle.std.proofs.Common.{◌≡◌, ◌≢◌, ℕ, zero, suc, ◌<◌, ◌≤◌, Bool, true, false, List, [], ◌∷◌, ◌++◌, length, Option, Some, None, All, refl, sym, ◌∙◌, ap, subst, rules, arith, append_assoc}
-use Rattle.std.specs.Option.{option_map}
+use Rattle.std.proofs.Common.{◌≡◌, List, [], ◌∷◌, Option, Some, None, refl}
 use Rattle.grind_tokens.specs.declared.tokens.Sym.{Sym}
 use Rattle.grind_grammar.specs.declared.syntax.Binary.{Binary}
-use Rattle.grind_grammar.specs.Lexemes.{Lexeme, Word, Number, Symbol, lexemes}
-use Rattle.grind_grammar.specs.Reading.{Read, Reader, read, read_map, read_then, op_at}
+use Rattle.grind_grammar.specs.Lexemes.{Lexeme, Word, Number, Symbol}
+use Rattle.grind_grammar.specs.Reading.{read, op_at}
 use Rattle.grind_syntax.specs.Places.{NoSymbol}
 
 pub op_front : (ops : Sym → Option Binary) (ls : List Lexeme) (s : Sym) (rest : List Lexeme) (op : Binary) → ls ≡ Symbol s ∷ rest → ops s ≡ Some op →

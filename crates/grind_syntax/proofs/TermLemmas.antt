@@ -1,5 +1,5 @@
 -- The levels of terms, step by step.
-use Rattle.std.proofs.Common.{◌≡◌, ◌≢◌, ℕ, ℤ, zero, suc, ◌+◌, ◌-◌, ◌<◌, ◌≤◌, Bool, true, false, List, [], ◌∷◌, ◌++◌, length, Option, Some, None, All, refl, sym, ◌∙◌, ap, subst, rules, arith, append_assoc, codes}
+use Rattle.std.proofs.Common.{◌≡◌, ℕ, ℤ, zero, suc, ◌+◌, ◌-◌, ◌<◌, Bool, true, false, List, [], ◌∷◌, ◌++◌, length, Option, Some, None, refl, sym, ◌∙◌, ap, arith, codes}
 use Rattle.std.specs.Prelude.{if◌then◌else◌}
 use Rattle.std.specs.Str.{bytes_eq}
 use Rattle.grind_tokens.specs.declared.tokens.Sym.{Sym}
@@ -21,8 +21,8 @@ use Rattle.grind_syntax.specs.Places.{NoWord, NoNumber, Past, Behind}
 use Rattle.grind_syntax.specs.Levels.{level, level_over}
 use Rattle.grind_syntax.specs.Built.{term_given, terms_given, with_last, one_times, sides_joined, LeftSoFar, RightSoFar}
 use Rattle.grind_syntax.proofs.Fronts.{lexemes_length}
-use Rattle.grind_syntax.proofs.Items.{then_none, then_read, map_none, map_read, map_map, map_same, map_gave, closed_none, closed_open, closed_read}
-use Rattle.grind_syntax.proofs.TreeLemmas.{last_side, no_side, all_last}
+use Rattle.grind_syntax.proofs.Items.{then_none, then_read, map_none, map_read, map_map, map_same, map_gave, closed_open, closed_read}
+use Rattle.grind_syntax.proofs.TreeLemmas.{last_side, all_last}
 
 -- signs
 

@@ -1,5 +1,5 @@
 -- What the code keeps of annotations.
-use Rattle.std.specs.Prelude.{◌≡◌, ℕ, suc, ◌<◌, List, [], ◌∷◌, ◌++◌, Option, Some, None, map, All}
+use Rattle.std.specs.Prelude.{◌≡◌, ℕ, ◌<◌, List, [], ◌∷◌, ◌++◌, Option, Some, None, map, All}
 use Rattle.std.specs.Option.{option_map}
 use Rattle.grind_grammar.specs.declared.syntax.Annot.{Annot}
 use Rattle.grind_grammar.specs.declared.syntax.Annot.TheVariants as kinds

@@ -1,6 +1,5 @@
 -- What the code keeps of the terms that it reads.
 use Rattle.std.specs.Prelude.{◌≡◌, ◌<◌, length, ℕ, zero, suc, List, [], ◌∷◌, ◌++◌, Option, Some, None, map, All, if◌then◌else◌}
-use Rattle.std.specs.Option.{option_map}
 use Rattle.grind_grammar.specs.declared.syntax.Unary.{Unary}
 use Rattle.grind_grammar.specs.declared.syntax.Binary.{Binary}
 use Rattle.grind_grammar.specs.declared.syntax.Tree.{Tree}

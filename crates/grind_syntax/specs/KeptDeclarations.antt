@@ -1,5 +1,5 @@
 -- What the code keeps of declarations.
-use Rattle.std.specs.Prelude.{◌≡◌, ℕ, List, [], ◌∷◌, Option, Some, None, map, All}
+use Rattle.std.specs.Prelude.{ℕ, List, Option, Some, None, map, All}
 use Rattle.grind_grammar.specs.declared.syntax.Decl.{Decl}
 use Rattle.grind_grammar.specs.declared.syntax.Decl.TheVariants as decls
 use Rattle.grind_grammar.specs.Terms.{Declaration, Sort, Fun, Theorem, Goal, Limit}

@@ -1,5 +1,5 @@
 -- The levels of the grammar, as the code names them.
-use Rattle.std.specs.Prelude.{ℕ, Option, Some, None}
+use Rattle.std.specs.Prelude.{ℕ, Option, None}
 use Rattle.grind_tokens.specs.declared.tokens.Sym.{Sym}
 use Rattle.grind_grammar.specs.declared.syntax.Binary.{Binary}
 use Rattle.grind_grammar.specs.Terms.{Term}

@@ -1,13 +1,10 @@
 -- What stands before a dot.
-use Rattle.std.specs.Prelude.{◌≡◌, ◌≢◌, ℕ, ◌+◌, ◌-◌, List, [], ◌∷◌, ◌++◌, length, All}
+use Rattle.std.specs.Prelude.{◌≡◌, ◌≢◌, ℕ, List, [], ◌∷◌, ◌++◌, length, All}
 use Rattle.grind_tokens.specs.declared.tokens.Sym.TheVariants as symbols
 use Rattle.grind_tokens.specs.declared.tokens.TokenKind.{TokenKind}
 use Rattle.grind_tokens.specs.declared.tokens.TokenKind.TheVariants as kinds
 use Rattle.grind_tokens.specs.declared.tokens.Token.{Token}
-use Rattle.grind_grammar.specs.Lexemes.{Lexeme, Symbol, lexemes}
-use Rattle.grind_grammar.specs.Reading.{symbol_at}
 use Rattle.grind_grammar.specs.Parentheses.{open_after_symbol}
-use Rattle.grind_syntax.specs.Places.{Placed}
 
 -- how many parentheses are open behind a token
 abbrev pub open_behind : ℕ → TokenKind → ℕ

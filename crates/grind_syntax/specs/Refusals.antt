@@ -1,14 +1,12 @@
 -- Why there are no declarations, and how far a file was read.
-use Rattle.std.specs.Prelude.{◌≡◌, ℕ, suc, ◌+◌, ◌<◌, ◌^◌, List, [], ◌∷◌, ◌++◌, length, map, All, Result, Ok, Err}
-use Rattle.grind_tokens.specs.declared.tokens.Token.{Token}
+use Rattle.std.specs.Prelude.{◌≡◌, ℕ, ◌+◌, List, ◌++◌, map, Result, Err}
 use Rattle.grind_grammar.specs.declared.syntax.Decl.{Decl}
 use Rattle.grind_grammar.specs.Terms.{Declaration}
-use Rattle.grind_grammar.specs.Lexemes.{Lexeme, lexemes}
+use Rattle.grind_grammar.specs.Lexemes.{Lexeme}
 use Rattle.grind_grammar.specs.Files.{Fault, Syntax, TooDeep, IsFaultyEnd, DeclarationsOf, RefusedAt}
 use Rattle.grind_syntax.specs.declared.parse.SyntaxRefusal.{SyntaxRefusal}
 use Rattle.grind_syntax.specs.declared.parse.SyntaxRefusal.TheVariants as refusals
-use Rattle.grind_syntax.specs.Places.{Placed}
-use Rattle.grind_syntax.specs.KeptDeclarations.{declaration_kept, IsPlacedDeclaration}
+use Rattle.grind_syntax.specs.KeptDeclarations.{declaration_kept}
 
 -- a refusal of these lexemes; want of memory says nothing of them
 abbrev pub IsRefusal : List Lexeme → SyntaxRefusal → Type 0

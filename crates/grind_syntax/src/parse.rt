@@ -109,3 +109,6 @@ pub fn parse(alloc: Global, text: &[u8], tokens: &List<Token>) -> Result<List<De
     }
     Ok(decls)
 }
+
+#[cfg(test)]
+mod tests;

@@ -1,11 +1,11 @@
-use Rattle.std.proofs.Common.{◌≡◌, ◌∙◌, ◌<◌, ◌∷◌, ◌++◌, [], Some, length, ap, sym, arith}
+use Rattle.std.proofs.Common.{◌∙◌, ◌∷◌, ◌++◌, [], length, ap, sym}
 use Rattle.std.proofs.lemmas.List.Elements.{All-nil}
 use Rattle.grind_grammar.specs.Lexemes.{lexemes}
 use Rattle.grind_grammar.specs.Reading.{all_of, read}
 use Rattle.grind_syntax.specs.Places.{Past}
 use Rattle.grind_syntax.specs.Levels.{level}
 use Rattle.grind_syntax.specs.declared.levels.Level.TheVariants as levels
-use Rattle.grind_syntax.specs.Annotated.{annotation_given, annotations_given, with_annotation, IsPlacedAnnotation}
+use Rattle.grind_syntax.specs.Annotated.{annotation_given, with_annotation, IsPlacedAnnotation}
 use Rattle.grind_syntax.proofs.Items.{behind_all, behind_past, map_read}
 use Rattle.grind_syntax.proofs.TermLemmas.{past_then_behind}
 use Rattle.grind_syntax.proofs.AnnotationLemmas.{annots_begin, annots_next, annots_fail, annots_end, annots_last, no_annots}

@@ -1,4 +1,3 @@
-use Rattle.std.proofs.Common.{◌≡◌}
 use Rattle.grind_tokens.specs.declared.tokens.Sym.TheVariants as symbols
 use Rattle.grind_syntax.proofs.Items.{closed_none, closed_open, closed_read}
 use Rattle.grind_syntax.proofs.annotations.bracketed.Goals as goal

@@ -1,6 +1,5 @@
-use Rattle.std.proofs.Common.{◌≡◌, ◌∙◌, true, false, ap, sym, codes}
+use Rattle.std.proofs.Common.{◌≡◌, ◌∙◌, true, false, codes}
 use Rattle.std.specs.Str.{bytes_eq}
-use Rattle.grind_grammar.specs.Lexemes.{lexemes}
 use Rattle.grind_grammar.specs.Keeps.{name_of}
 use Rattle.grind_syntax.specs.Levels.{level}
 use Rattle.grind_syntax.specs.declared.levels.Level.TheVariants as levels

@@ -1,10 +1,9 @@
-use Rattle.std.proofs.Common.{◌≡◌, ◌∙◌, ap, sym}
+use Rattle.std.proofs.Common.{◌∙◌, ap, sym}
 use Rattle.std.specs.Option.{option_map}
 use Rattle.grind_grammar.specs.Terms.{Pattern}
 use Rattle.grind_grammar.specs.Lexemes.{lexemes}
 use Rattle.grind_grammar.specs.Reading.{read}
 use Rattle.grind_syntax.proofs.AnnotationLemmas.{patterns_all}
-use Rattle.grind_syntax.specs.Built.{terms_given}
 use Rattle.grind_syntax.proofs.annotations.patterns.Goals as goal
 
 pub returns-in_default-2-clause-is : goal.returns-in_default-2-clause-is

@@ -1,4 +1,4 @@
-use Rattle.std.proofs.Common.{◌≡◌, ◌∙◌, ap, sym, codes}
+use Rattle.std.proofs.Common.{◌∙◌, ap, sym}
 use Rattle.grind_grammar.specs.Lexemes.{lexemes}
 use Rattle.grind_grammar.specs.Reading.{word_at}
 use Rattle.grind_syntax.proofs.AnnotationLemmas.{short_left, short_right, short_hyps, short_less, short_concl, short_other}

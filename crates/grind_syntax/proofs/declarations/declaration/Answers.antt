@@ -1,5 +1,4 @@
-use Rattle.std.proofs.Common.{◌≡◌, ◌∙◌}
-use Rattle.grind_grammar.specs.Lexemes.{lexemes}
+use Rattle.std.proofs.Common.{◌∙◌}
 use Rattle.grind_grammar.specs.Keeps.{name_of}
 use Rattle.grind_grammar.specs.Reading.{declaration_of}
 use Rattle.grind_grammar.specs.Files.{depth_limit}

@@ -1,4 +1,4 @@
-use Rattle.std.proofs.Common.{◌≡◌, ◌∙◌, true, false, ap, sym, rules, codes, FitsSigned, Some}
+use Rattle.std.proofs.Common.{◌≡◌, ◌∙◌, true, false, rules, codes, FitsSigned}
 use Rattle.std.specs.Int.{w128}
 use Rattle.std.proofs.lemmas.Int.{to_z-of_z}
 use Rattle.std.specs.Str.{bytes_eq}

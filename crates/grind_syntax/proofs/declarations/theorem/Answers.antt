@@ -1,9 +1,8 @@
-use Rattle.std.proofs.Common.{◌≡◌, ◌∙◌, suc, Some, None, ap, sym}
+use Rattle.std.proofs.Common.{◌∙◌, ap, sym}
 use Rattle.grind_tokens.specs.declared.tokens.Sym.TheVariants as symbols
-use Rattle.grind_grammar.specs.Terms.{Annotation}
 use Rattle.grind_grammar.specs.Lexemes.{lexemes}
 use Rattle.grind_grammar.specs.Keeps.{name_of}
-use Rattle.grind_grammar.specs.Reading.{read, read_map, all_of, closed, annots, sum, formula, theorem_with}
+use Rattle.grind_grammar.specs.Reading.{read, read_map, all_of, annots, theorem_with}
 use Rattle.grind_grammar.specs.Files.{depth_limit}
 use Rattle.std.specs.Prelude.{map}
 use Rattle.grind_syntax.specs.Places.{bound_of}

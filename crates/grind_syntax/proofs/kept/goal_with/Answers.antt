@@ -1,9 +1,8 @@
-use Rattle.std.proofs.Common.{◌≡◌, ◌∙◌, ap, sym, Some, None}
+use Rattle.std.proofs.Common.{sym}
 use Rattle.std.specs.Prelude.{map}
 use Rattle.grind_grammar.specs.Keeps.{name_of, term_of}
 use Rattle.grind_syntax.specs.Places.{bound_of}
-use Rattle.grind_syntax.specs.Built.{term_given, trees_given}
-use Rattle.grind_syntax.specs.Annotated.{annotation_of, annotations_given}
+use Rattle.grind_syntax.specs.Built.{term_given}
 use Rattle.grind_syntax.proofs.DeclarationLemmas.{goal_lost, goal_half, goal_whole}
 use Rattle.grind_syntax.proofs.kept.goal_with.Goals as goal
 

@@ -1,5 +1,4 @@
-use Rattle.std.proofs.Common.{◌≡◌, ◌∙◌, None, Some, sym}
-use Rattle.grind_grammar.specs.Lexemes.{lexemes}
+use Rattle.std.proofs.Common.{◌∙◌, sym}
 use Rattle.grind_syntax.specs.Levels.{ops_of}
 use Rattle.grind_syntax.proofs.OperatorLemmas.{op_front, no_op_front, no_symbol_no_op}
 use Rattle.grind_syntax.proofs.levels.op_at.Goals as goal

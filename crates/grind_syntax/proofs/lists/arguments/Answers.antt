@@ -1,7 +1,6 @@
-use Rattle.std.proofs.Common.{◌≡◌, ◌∙◌, None, [], ap, sym}
+use Rattle.std.proofs.Common.{◌∙◌}
 use Rattle.grind_tokens.specs.declared.tokens.Sym.TheVariants as symbols
-use Rattle.grind_grammar.specs.Lexemes.{lexemes}
-use Rattle.grind_grammar.specs.Reading.{sort_at, list_at, read}
+use Rattle.grind_grammar.specs.Reading.{sort_at}
 use Rattle.grind_syntax.proofs.Items.{parentheses_none, parentheses_open, closed_none, closed_open, closed_read}
 use Rattle.grind_syntax.proofs.lists.arguments.Goals as goal
 

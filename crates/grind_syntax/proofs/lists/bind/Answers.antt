@@ -1,4 +1,4 @@
-use Rattle.std.proofs.Common.{◌≡◌, ◌∙◌, ◌∷◌, ap, sym, subst, All}
+use Rattle.std.proofs.Common.{◌≡◌, ◌∷◌, subst, All}
 use Rattle.std.specs.Prelude.{map}
 use Rattle.std.proofs.lemmas.List.Elements.{All-head, All-tail}
 use Rattle.grind_grammar.specs.Keeps.{IsPlaced, name_of}

@@ -1,9 +1,3 @@
-use Rattle.std.proofs.Common.{◌≡◌, ◌∙◌, None, [], ap, sym}
-use Rattle.grind_tokens.specs.declared.tokens.Sym.TheVariants as symbols
-use Rattle.grind_grammar.specs.Lexemes.{lexemes}
-use Rattle.grind_grammar.specs.Grammar.{joined}
-use Rattle.grind_grammar.specs.Reading.{group, list_at, read, read_map, in_parentheses}
-use Rattle.grind_syntax.specs.Places.{bound_of}
 use Rattle.grind_syntax.proofs.ListLemmas.{binders_is, binders_none, binders_open, binders_read}
 use Rattle.grind_syntax.proofs.lists.binders.Goals as goal
 

@@ -1,13 +1,12 @@
-use Rattle.std.proofs.Common.{◌≡◌, ◌∙◌, ◌<◌, ◌++◌, [], ◌∷◌, Option, Some, length, ap, sym, subst, arith, rules, All, List}
+use Rattle.std.proofs.Common.{◌≡◌, ◌∙◌, ◌++◌, [], ◌∷◌, length, ap, sym, subst, rules, All}
 use Rattle.std.specs.Prelude.{map}
 use Rattle.std.proofs.lemmas.List.Elements.{All-nil, All-append}
 use Rattle.grind_tokens.specs.declared.tokens.Sym.TheVariants as symbols
-use Rattle.grind_grammar.specs.Terms.{Bound}
 use Rattle.grind_grammar.specs.Lexemes.{lexemes}
 use Rattle.grind_grammar.specs.Grammar.{joined}
-use Rattle.grind_grammar.specs.Reading.{group, read, list_at}
-use Rattle.grind_syntax.specs.Places.{Past, Behind, Gives, ItemsSoFar, bound_of, IsPlacedBound}
-use Rattle.grind_syntax.proofs.Items.{items_begin, items_next, items_last, items_none, behind_all, behind_on, past_on, behind_past, behind_then_past, map_read}
+use Rattle.grind_grammar.specs.Reading.{group, read}
+use Rattle.grind_syntax.specs.Places.{Past, bound_of, IsPlacedBound}
+use Rattle.grind_syntax.proofs.Items.{items_begin, items_next, items_last, items_none, behind_all, behind_on, behind_past, behind_then_past, map_read}
 use Rattle.grind_syntax.proofs.ListLemmas.{joined_more}
 use Rattle.grind_syntax.proofs.lists.groups.Goals as goal
 

@@ -1,11 +1,10 @@
-use Rattle.std.proofs.Common.{◌≡◌, ◌∙◌, ◌<◌, [], length, ap, sym, subst, arith, rules}
-use Rattle.std.specs.Prelude.{map}
+use Rattle.std.proofs.Common.{◌∙◌, length, ap, sym, subst}
 use Rattle.std.proofs.lemmas.List.Elements.{All-nil}
 use Rattle.grind_tokens.specs.declared.tokens.Sym.TheVariants as symbols
 use Rattle.grind_grammar.specs.Lexemes.{lexemes}
 use Rattle.grind_grammar.specs.Keeps.{IsPlaced, name_of}
 use Rattle.grind_grammar.specs.Reading.{sort_at, read}
-use Rattle.grind_syntax.specs.Places.{Past, ItemsSoFar}
+use Rattle.grind_syntax.specs.Places.{ItemsSoFar}
 use Rattle.grind_syntax.proofs.Items.{items_begin, items_next, items_last, items_none, behind_all, behind_past, past_on}
 use Rattle.grind_syntax.proofs.ListLemmas.{kept_more, all_more}
 use Rattle.grind_syntax.proofs.lists.sorts.Goals as goal

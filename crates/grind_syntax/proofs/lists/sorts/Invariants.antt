@@ -1,4 +1,4 @@
-use Rattle.std.proofs.Common.{length, ◌≤◌, All}
+use Rattle.std.proofs.Common.{length, All}
 use Rattle.std.specs.Prelude.{map}
 use Rattle.grind_tokens.specs.declared.tokens.Sym.TheVariants as symbols
 use Rattle.grind_grammar.specs.Lexemes.{lexemes}

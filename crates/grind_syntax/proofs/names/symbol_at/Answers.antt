@@ -1,4 +1,4 @@
-use Rattle.std.proofs.Common.{◌≡◌, ◌∷◌, List, rules, arith, length}
+use Rattle.std.proofs.Common.{◌≡◌, ◌∷◌, List, rules, length}
 use Rattle.grind_grammar.specs.Lexemes.{Lexeme, Symbol, lexemes}
 use Rattle.grind_syntax.proofs.Fronts.{symbol_front, no_symbol_front, no_symbol_at_end}
 use Rattle.grind_syntax.proofs.names.symbol_at.Goals as goal

@@ -1,4 +1,4 @@
-use Rattle.std.proofs.Common.{◌≡◌, ◌+◌, ◌<◌, ◌^◌, length, All}
+use Rattle.std.proofs.Common.{◌+◌, ◌<◌, ◌^◌, length, All}
 use Rattle.grind_grammar.specs.Lexemes.{lexemes}
 use Rattle.grind_syntax.specs.Places.{Placed}
 use Rattle.grind_syntax.specs.KeptDeclarations.{IsPlacedDeclaration}

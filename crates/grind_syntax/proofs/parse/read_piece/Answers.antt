@@ -1,6 +1,6 @@
-use Rattle.std.proofs.Common.{◌≡◌, ◌∙◌, ◌<◌, true, false, length, refl, sym, arith}
+use Rattle.std.proofs.Common.{◌≡◌, ◌<◌, true, false, length, refl, arith}
 use Rattle.grind_grammar.specs.Lexemes.{lexemes}
-use Rattle.grind_grammar.specs.Reading.{within, read, declaration}
+use Rattle.grind_grammar.specs.Reading.{within}
 use Rattle.grind_grammar.specs.Files.{depth_limit}
 use Rattle.grind_syntax.specs.KeptDeclarations.{declaration_kept}
 use Rattle.grind_syntax.proofs.Fronts.{lexemes_length}

@@ -1,4 +1,4 @@
-use Rattle.std.proofs.Common.{◌≡◌, ◌≤◌, ◌++◌, length, List}
+use Rattle.std.proofs.Common.{◌≡◌, ◌++◌, length, List}
 use Rattle.grind_tokens.specs.declared.tokens.Token.{Token}
 use Rattle.grind_syntax.specs.Pieces.{AreUndotted}
 use Rattle.grind_syntax.proofs.pieces.len_to_dot.Given as goal

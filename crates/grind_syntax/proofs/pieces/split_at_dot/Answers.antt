@@ -1,11 +1,10 @@
-use Rattle.std.proofs.Common.{◌≡◌, ◌∙◌, sym, subst, rules}
+use Rattle.std.proofs.Common.{◌≡◌, ◌∙◌, sym, subst}
 use Rattle.grind_grammar.specs.Lexemes.{lexemes}
 use Rattle.grind_syntax.specs.Places.{Placed}
 use Rattle.grind_syntax.specs.Pieces.{AreUndotted}
 use Rattle.grind_grammar.specs.Reading.{symbol_at}
 use Rattle.grind_tokens.specs.declared.tokens.Sym.TheVariants as symbols
-use Rattle.grind_tokens.specs.declared.tokens.Token.{Token}
-use Rattle.std.proofs.Common.{◌++◌, List, None, Some, ap}
+use Rattle.std.proofs.Common.{◌++◌, None, Some, ap}
 use Rattle.grind_syntax.proofs.FileLemmas.{piece_is, rest_is, placed_piece, placed_rest, no_dot_behind, dot_behind, split_whole, only_piece}
 use Rattle.grind_syntax.proofs.pieces.split_at_dot.Goals as goal
 

@@ -1,22 +1,17 @@
-use Rattle.std.proofs.Common.{◌≡◌, ◌∙◌, ◌<◌, ◌-◌, ◌∷◌, ◌++◌, [], Some, None, true, false, length, ap, sym, subst, arith, rules, codes, FitsSigned}
+use Rattle.std.proofs.Common.{◌≡◌, ◌∙◌, ◌∷◌, ◌++◌, [], true, false, length, ap, sym, subst, rules, codes, FitsSigned}
 use Rattle.std.specs.Int.{w128}
 use Rattle.std.specs.Str.{bytes_eq}
 use Rattle.std.proofs.lemmas.Int.{to_z-of_z}
 use Rattle.std.proofs.lemmas.List.Elements.{All-nil, All-cons, All-append}
 use Rattle.grind_tokens.specs.declared.tokens.Sym.TheVariants as symbols
-use Rattle.grind_grammar.specs.declared.syntax.Tree.TheVariants as trees
-use Rattle.grind_grammar.specs.Terms as terms
 use Rattle.grind_grammar.specs.Lexemes.{lexemes}
 use Rattle.grind_grammar.specs.Keeps.{name_of}
-use Rattle.grind_grammar.specs.Reading as reading
-use Rattle.grind_grammar.specs.Reading.{read, read_map, closed, list_at, formula, is_name, all_of, applied, two, fit, minus, product, sum, relation, negation, conj, disj, impl, formula_over}
+use Rattle.grind_grammar.specs.Reading.{read, read_map, list_at, formula, is_name, all_of, applied, two, minus, product, sum, relation, negation, conj, disj, impl, formula_over}
 use Rattle.grind_grammar.specs.Files.{depth_limit}
-use Rattle.grind_syntax.specs.Places.{Behind, Past, ItemsSoFar}
+use Rattle.grind_syntax.specs.Places.{Past}
 use Rattle.grind_syntax.specs.Levels.{level, level_over, ops_of}
-use Rattle.grind_syntax.specs.declared.levels.Level.TheVariants as levels
-use Rattle.grind_syntax.specs.Built.{term_given, terms_given, with_last, one_times, sides_joined, IsPlacedBuilt, IsPlacedParts, AreSidesPlaced, LeftSoFar, RightSoFar}
-use Rattle.grind_syntax.proofs.Items.{behind_all, behind_past, behind_on, past_behind, past_on, behind_then_past, map_none, map_read, closed_none, closed_open, closed_read, items_begin, items_next, items_last, items_none}
-use Rattle.grind_syntax.proofs.TreeLemmas.{all_last}
+use Rattle.grind_syntax.specs.Built.{term_given, one_times, IsPlacedBuilt, AreSidesPlaced, LeftSoFar, RightSoFar}
+use Rattle.grind_syntax.proofs.Items.{behind_all, behind_past, behind_on, behind_then_past, map_none, map_read, closed_none, closed_open, closed_read, items_begin, items_next, items_last, items_none}
 use Rattle.grind_syntax.proofs.TermLemmas as steps
 use Rattle.grind_syntax.proofs.terms.+terms.Goals as goal
 

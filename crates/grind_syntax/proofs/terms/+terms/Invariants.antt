@@ -1,7 +1,7 @@
-use Rattle.std.proofs.Common.{◌≡◌, ◌≤◌, ◌<◌, ◌+◌, ◌*◌, length, List, Option}
+use Rattle.std.proofs.Common.{◌≡◌, ◌+◌, ◌*◌, length, List, Option}
 use Rattle.grind_grammar.specs.Terms.{Term}
 use Rattle.grind_grammar.specs.Lexemes.{lexemes}
-use Rattle.grind_grammar.specs.Reading.{left_joined, right_chain, all_of}
+use Rattle.grind_grammar.specs.Reading.{all_of}
 use Rattle.grind_grammar.specs.Files.{depth_limit}
 use Rattle.grind_syntax.specs.Places.{Behind, ItemsSoFar}
 use Rattle.grind_syntax.specs.Levels.{place, level, ops_of}

@@ -1,4 +1,4 @@
-use Rattle.std.proofs.Common.{◌≡◌, ◌+◌, arith}
+use Rattle.std.proofs.Common.{arith}
 use Rattle.grind_grammar.specs.Lexemes.{lexemes}
 use Rattle.grind_syntax.proofs.Items.{behind_all, behind_past}
 use Rattle.grind_syntax.proofs.TermLemmas.{signs_begin, signs_more, signs_end}

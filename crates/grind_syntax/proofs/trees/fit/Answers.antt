@@ -1,7 +1,6 @@
-use Rattle.std.proofs.Common.{◌≡◌, ◌<◌, ◌≤◌, sym, arith}
+use Rattle.std.proofs.Common.{◌<◌, ◌≤◌, sym, arith}
 use Rattle.grind_grammar.specs.Terms.{depth}
 use Rattle.grind_grammar.specs.Keeps.{term_of}
-use Rattle.grind_syntax.specs.Depth.{tree_depth}
 use Rattle.grind_syntax.proofs.TreeLemmas.{depth_of, fit_low, fit_deep}
 use Rattle.grind_syntax.proofs.trees.fit.Goals as goal
 

@@ -1,5 +1,5 @@
-use Rattle.std.proofs.Common.{◌≡◌, ◌∙◌, ◌∷◌, ◌++◌, [], ap, sym, subst, All}
-use Rattle.grind_syntax.specs.Built.{term_given, sides_joined, IsPlacedBuilt, AreSidesPlaced}
+use Rattle.std.proofs.Common.{◌∙◌, ap, sym, subst}
+use Rattle.grind_syntax.specs.Built.{term_given, sides_joined, AreSidesPlaced}
 use Rattle.grind_syntax.proofs.TreeLemmas.{last_side, no_side, sides_split}
 use Rattle.grind_syntax.proofs.trees.joined.Goals as goal
 

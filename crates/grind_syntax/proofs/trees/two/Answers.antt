@@ -1,4 +1,4 @@
-use Rattle.std.proofs.Common.{◌≡◌, ◌∙◌, ap, sym, Some, None}
+use Rattle.std.proofs.Common.{◌∙◌, ap, sym, Some}
 use Rattle.grind_grammar.specs.Terms as terms
 use Rattle.grind_grammar.specs.Keeps.{term_of}
 use Rattle.grind_grammar.specs.Reading.{fit, two}

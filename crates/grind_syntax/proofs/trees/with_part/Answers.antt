@@ -1,6 +1,5 @@
-use Rattle.std.proofs.Common.{◌≡◌, ◌∙◌, ◌≤◌, ◌∷◌, ◌++◌, [], ap, sym, arith}
-use Rattle.std.specs.Prelude.{max}
-use Rattle.grind_syntax.specs.Depth.{tree_depth, trees_depth}
+use Rattle.std.proofs.Common.{◌≡◌, ◌∷◌, ◌++◌, [], ap, arith}
+use Rattle.grind_syntax.specs.Depth.{trees_depth}
 use Rattle.grind_syntax.proofs.TreeLemmas.{deeper}
 use Rattle.grind_syntax.proofs.trees.with_part.Goals as goal
 

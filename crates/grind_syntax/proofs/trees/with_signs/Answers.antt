@@ -1,4 +1,4 @@
-use Rattle.std.proofs.Common.{◌≡◌, ◌∙◌, ap, sym, arith}
+use Rattle.std.proofs.Common.{◌∙◌, ap, sym, arith}
 use Rattle.grind_grammar.specs.Reading.{one}
 use Rattle.grind_syntax.specs.Built.{term_given}
 use Rattle.grind_syntax.proofs.TreeLemmas.{no_sign, one_more}
