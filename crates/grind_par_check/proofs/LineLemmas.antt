@@ -13,7 +13,7 @@ begins_with_terms goal proof has =
 
 pub has_terms : (goal : GoalData) (proof : Proof) → BeginsWithTerms goal proof → HasTerms goal proof
 has_terms goal proof begins = (
-    drop (length goal.terms.nodes) proof.terms.nodes,
-    sym (take-append-drop (length goal.terms.nodes) proof.terms.nodes)
-    ∙ ap (λ front. front ++ drop (length goal.terms.nodes) proof.terms.nodes) begins,
-  )
+  drop (length goal.terms.nodes) proof.terms.nodes,
+  sym (take-append-drop (length goal.terms.nodes) proof.terms.nodes)
+      ∙ ap (λ front. front ++ drop (length goal.terms.nodes) proof.terms.nodes) begins,
+)

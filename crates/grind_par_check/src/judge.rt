@@ -1,8 +1,8 @@
 //! The first bad item of many, looked for by several threads.
-ghost use Rattle.std.specs.Prelude.{◌≡◌, ◌≤◌, ◌<◌, ◌+◌, ◌↔◌, ℕ, IsTrue, IfOk, OnErr, MatchOption};
+ghost use Rattle.std.specs.Prelude.{◌≡◌, ◌≤◌, ◌<◌, ◌*◌, ◌/◌, ◌↔◌, ℕ, IsTrue, IfOk, OnErr, MatchOption};
 ghost use Rattle.std.specs.Thread.{IsSync};
 ghost use Rattle.grind_par_check.specs.Judges.{AreTrue, IsFirstBad, IsRefused};
-ghost use Rattle.grind_par_check.specs.Runs.{IsTrueRun, IsFirstBadOfRun, IsRefusedRun};
+ghost use Rattle.grind_par_check.specs.Runs.{IsFoundInRun, IsRefusedInRun};
 
 use grind_outside::Memory;
 use std::thread::{Threads, join};
@@ -60,10 +60,11 @@ fn first_between<R: Threads + Sync, J: Judge>(
     to: u32,
     runs: u32,
 ) -> Result<Option<u32>, Memory>
-    requires run { (from ≤ to) × (to ≤ J.count judge.now) }
+    requires run { from ≤ to }
+    requires items { to ≤ J.count judge.now }
     requires runs { 0 < runs }
-    ensures ok { IfOk result (λ found. MatchOption found (IsTrueRun (J.holds judge.now) from to) (IsFirstBadOfRun (J.holds judge.now) from to)) }
-    ensures err { OnErr result (IsRefusedRun (J.refuses judge.now) from to) }
+    ensures ok { IfOk result (IsFoundInRun (J.holds judge.now) from to) }
+    ensures err { OnErr result (IsRefusedInRun (J.refuses judge.now) from to) }
 {
     if runs == 1 {
         return first_in_run(judge, from, to);
@@ -75,13 +76,13 @@ fn first_between<R: Threads + Sync, J: Judge>(
         rt,
         || -> Result<Option<u32>, Memory>
             requires { IsSync R.row × IsSync J.row × (from ≤ middle) × (middle ≤ J.count judge.now) × (0 < left) }
-            ensures ok { IfOk result (λ found. MatchOption found (IsTrueRun (J.holds judge.entry.now) from middle) (IsFirstBadOfRun (J.holds judge.entry.now) from middle)) }
-            ensures err { OnErr result (IsRefusedRun (J.refuses judge.entry.now) from middle) }
+            ensures ok { IfOk result (IsFoundInRun (J.holds judge.entry.now) from middle) }
+            ensures err { OnErr result (IsRefusedInRun (J.refuses judge.entry.now) from middle) }
         { first_between(rt, judge, from, middle, left) },
         || -> Result<Option<u32>, Memory>
             requires { IsSync R.row × IsSync J.row × (middle ≤ to) × (to ≤ J.count judge.now) × (0 < right) }
-            ensures ok { IfOk result (λ found. MatchOption found (IsTrueRun (J.holds judge.entry.now) middle to) (IsFirstBadOfRun (J.holds judge.entry.now) middle to)) }
-            ensures err { OnErr result (IsRefusedRun (J.refuses judge.entry.now) middle to) }
+            ensures ok { IfOk result (IsFoundInRun (J.holds judge.entry.now) middle to) }
+            ensures err { OnErr result (IsRefusedInRun (J.refuses judge.entry.now) middle to) }
         { first_between(rt, judge, middle, to, right) },
     );
     match before? {
@@ -90,21 +91,22 @@ fn first_between<R: Threads + Sync, J: Judge>(
     }
 }
 
+#[tactic(auto, using(crate::proofs::ShareLemmas::share_within))]
 /// How much of a length so many of its parts take, rounded down.
 fn share(length: u32, parts: u32, all: u32) -> u32
     requires parts { parts ≤ all }
     requires all { 0 < all }
-    ensures { result ≤ length }
+    ensures value { result ≡ length * parts / all }
+    ensures within { result ≤ length }
 {
-    let share = u64::from(length) * u64::from(parts) / u64::from(all);
-    share.min(u64::from(length)) as u32
+    (u64::from(length) * u64::from(parts) / u64::from(all)) as u32
 }
 
 /// The place of the first item of a run that is not true, on this thread alone.
 fn first_in_run<J: Judge>(judge: &J, from: u32, to: u32) -> Result<Option<u32>, Memory>
     requires { to ≤ J.count judge.now }
-    ensures ok { IfOk result (λ found. MatchOption found (IsTrueRun (J.holds judge.now) from to) (IsFirstBadOfRun (J.holds judge.now) from to)) }
-    ensures err { OnErr result (IsRefusedRun (J.refuses judge.now) from to) }
+    ensures ok { IfOk result (IsFoundInRun (J.holds judge.now) from to) }
+    ensures err { OnErr result (IsRefusedInRun (J.refuses judge.now) from to) }
 {
     for i in from..to {
         let good = judge.judge(i)?;

@@ -7,3 +7,6 @@ pub mod judge;
 
 pub use check::check_parallel;
 pub use judge::{Judge, first_bad};
+
+#[cfg(test)]
+mod tests;
