@@ -8,6 +8,8 @@ mod checker_tests;
 #[cfg(test)]
 mod made_goal;
 #[cfg(test)]
+mod parallel_tests;
+#[cfg(test)]
 mod rule_tests;
 #[cfg(test)]
 mod signature_tests;

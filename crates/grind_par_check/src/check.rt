@@ -1,0 +1,79 @@
+//! The check of a proof, its lines by several threads.
+ghost use Rattle.std.specs.Prelude.{◌≡◌, ◌≤◌, ◌<◌, ◌↔◌, IsTrue, IfOk, MatchOption, length};
+ghost use Rattle.grind_proof_kernel.specs.Typing.{HasTerms, TypedLine};
+ghost use Rattle.grind_proof_kernel.specs.Judgement.{HasGoodBranches, IsFirstBadBranch, IsRight};
+ghost use Rattle.grind_par_check.specs.Lines.{BeginsWithTerms};
+
+use crate::judge::{Judge, first_bad};
+use grind_outside::Memory;
+use grind_proof_kernel::branches::is_good_branch;
+use grind_proof_kernel::{Proof, Verdict, check_line};
+use grind_schemes::{Goal, Lemmas};
+use std::alloc::Global;
+use std::thread::Threads;
+
+#[tactic(auto, using(crate::proofs::LineLemmas::begins_with_terms))]
+/// Whether the proof is typed for this goal, with these theorems, and else the first bad branch or, where no branch
+/// is bad, the first bad line. The lines are judged by so many jobs, and the answer is the same for each number of them.
+///
+/// # Errors
+/// `Memory` where memory was wanted and there was none.
+pub fn check_parallel(
+    rt: &(impl Threads + Sync),
+    alloc: Global,
+    lemmas: &Lemmas,
+    goal: &Goal,
+    proof: &Proof,
+    jobs: u32,
+) -> Result<Verdict, Memory>
+    requires terms { HasTerms goal.now proof.now }
+    requires jobs { 1 ≤ jobs }
+    ensures { IfOk result (IsRight lemmas.now goal.now proof.now) }
+{
+    if let Some(first) = first_bad_branch(proof) {
+        return Ok(Verdict::BadBranch { first });
+    }
+    let judge = LineJudge {
+        alloc,
+        lemmas,
+        goal,
+        proof,
+    };
+    match first_bad(rt, &judge, proof.lines.len() as u32, jobs)? {
+        Some(first) => Ok(Verdict::BadLine { first }),
+        None => Ok(Verdict::Typed),
+    }
+}
+
+/// The first bad branch, where there is one.
+fn first_bad_branch(proof: &Proof) -> Option<u32>
+    ensures { MatchOption result (HasGoodBranches proof.now) (IsFirstBadBranch proof.now) }
+{
+    for branch in 0..proof.branches.len() + 1 {
+        if !is_good_branch(proof, branch as u32) {
+            return Some(branch as u32);
+        }
+    }
+    None
+}
+
+/// The lines of a proof: item `i` is true where line `i` is typed.
+#[derive(Drop)]
+struct LineJudge<'a> {
+    alloc: Global,
+    lemmas: &'a Lemmas,
+    goal: &'a Goal,
+    proof: &'a Proof,
+    ghost begins: { BeginsWithTerms goal.now proof.now },
+}
+
+impl<'a> Judge for LineJudge<'a> {
+    ghost count = { λ it. length it.proof.now.lines };
+
+    ghost holds = { λ it i. TypedLine it.lemmas.now it.goal.now it.proof.now i };
+
+    #[tactic(auto, using(crate::proofs::LineLemmas::has_terms))]
+    fn judge(&self, i: u32) -> Result<bool, Memory> {
+        check_line(self.alloc, self.lemmas, self.goal, self.proof, i)
+    }
+}
