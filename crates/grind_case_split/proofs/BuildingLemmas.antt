@@ -1,20 +1,19 @@
 -- Steps in the building of a closure.
 use Rattle.std.specs.Prelude.{◌≡◌, ℕ, zero, suc, ◌+◌, ◌<◌, ◌≤◌, List, [], ◌∷◌, ◌++◌, Some, All, Contains, length, slice_get, slice_set, take, ◌⊎◌, ◌↔◌, refl}
 use Rattle.std.specs.List.{AllZip}
-use Rattle.std.proofs.Common.{arith, sym, ap, ◌∙◌, subst, inl, inr, length-append}
+use Rattle.std.proofs.Common.{arith, sym, ap, ◌∙◌, subst, inl, inr}
 use Rattle.std.proofs.lemmas.Bool.{cases_eq}
-use Rattle.std.proofs.lemmas.List.{take-append-le, take_all, append-nil, get_or-set_other}
+use Rattle.std.proofs.lemmas.List.{take-append-le}
 use Rattle.std.proofs.lemmas.Option.{slice_get_within}
 use Rattle.grind_term_graph.specs.declared.node.Node.{Node}
-use Rattle.grind_classes.specs.Classes.{members_of, IsIn, IsActive, AreTogether, IsPartition, joined}
+use Rattle.grind_classes.specs.Classes.{members_of, IsIn, IsActive, AreTogether, joined}
 use Rattle.grind_classes.proofs.ListLemmas.{members_within, Contains-cases, Contains-more}
 use Rattle.grind_congruence.specs.declared.edge.Edge.{Edge}
-use Rattle.grind_congruence.specs.Congruence.{Congruence, AreCongruent, Fits, IsAtRest}
+use Rattle.grind_congruence.specs.Congruence.{Congruence, AreCongruent, Fits}
 use Rattle.grind_congruence.specs.Edges.{Leads, Joins, AreClassesOf}
 use Rattle.grind_congruence.specs.Asserted.{IsJoined}
-use Rattle.grind_congruence.proofs.EdgeLemmas.{together-itself, together-back, active-left, active-right}
-use Rattle.grind_explain.specs.Explained.{AreJoinedWithin}
-use Rattle.grind_case_split.specs.Building.{IsFounded, AreFounded, HasEnds, IsBuilt, KeepsTogether, IsAsserted, class_count, IsOneMore, HasRest, AreAsserted, IsStepped, IsActiveBelow, IsAsserting, IsClosure}
+use Rattle.grind_congruence.proofs.EdgeLemmas.{together-itself, active-left, active-right}
+use Rattle.grind_case_split.specs.Building.{IsFounded, AreFounded, IsBuilt, KeepsTogether, IsAsserted, class_count, IsOneMore, HasRest, AreAsserted, IsActiveBelow, IsAsserting, IsClosure}
 
 -- how many lists these members are
 abbrev filled : List ℕ → ℕ

@@ -1,5 +1,5 @@
 -- What a closure of the given pairs decides.
-use Rattle.std.specs.Prelude.{◌≡◌, ℕ, zero, suc, ◌+◌, ◌<◌, ◌≤◌, List, [], ◌∷◌, ◌++◌, Option, Some, None, All, Contains, length, map, take, slice_get, ◌⊎◌, ◌↔◌, refl}
+use Rattle.std.specs.Prelude.{◌≡◌, ℕ, zero, suc, ◌<◌, List, [], ◌∷◌, Option, Some, None, All, Contains, length, map, take, slice_get, ◌↔◌, refl}
 use Rattle.std.specs.List.{AllZip}
 use Rattle.std.specs.Option.{IsSomeAnd, option_map}
 use Rattle.std.proofs.Common.{arith, sym, ap, ◌∙◌, subst, inl, inr}
@@ -7,24 +7,21 @@ use Rattle.std.proofs.lemmas.List.{length-take-le}
 use Rattle.std.proofs.lemmas.List.Elements.{All-cons, All-append, All-weaker}
 use Rattle.std.proofs.lemmas.Option.{slice_get_within, slice_get-get_or}
 use Rattle.grind_term_graph.specs.declared.node.Node.{Node}
-use Rattle.grind_term_graph.specs.Terms.{Terms}
 use Rattle.grind_term_graph.specs.Shape.{IsTable}
 use Rattle.grind_term_graph.proofs.Tables.{WellShaped-at}
 use Rattle.grind_schemes.specs.Goals.{GoalData}
 use Rattle.grind_schemes.specs.declared.lemmas.Lemmas.{Lemmas}
 use Rattle.grind_proof_kernel.specs.declared.claim.Claim.{Claim}
 use Rattle.grind_proof_kernel.specs.declared.claim.Claim.TheVariants.{Holds, Fails, Same, Differ, Absurd}
-use Rattle.grind_proof_kernel.specs.declared.proof.Branch.{Branch}
 use Rattle.grind_proof_kernel.specs.declared.proof.Line.{Line}
 use Rattle.grind_proof_kernel.specs.declared.proof.Proof.{Proof}
 use Rattle.grind_proof_kernel.specs.Claims.{claim_at}
 use Rattle.grind_proof_kernel.specs.Rules.{IsClash}
 use Rattle.grind_proof_kernel.specs.Typing.{Reaches}
-use Rattle.grind_proof_kernel.proofs.Growth.{field_is_still}
 use Rattle.grind_proof_kernel.proofs.BranchGrowth.{some_and_then}
 use Rattle.grind_classes.specs.Classes.{IsActive, AreTogether}
 use Rattle.grind_congruence.specs.declared.edge.Edge.{Edge}
-use Rattle.grind_congruence.specs.Congruence.{Congruence, Fits}
+use Rattle.grind_congruence.specs.Congruence.{Congruence}
 use Rattle.grind_congruence.specs.Edges.{Passes, Leads, Joins, AreClassesOf}
 use Rattle.grind_congruence.specs.Derivable.{Derivable, DerivableRow}
 use Rattle.grind_congruence.specs.Derivable.Derivable.{given, reflexive, symmetric, transitive, congruent}
@@ -36,9 +33,9 @@ use Rattle.grind_explain.specs.declared.why.Why.TheVariants as why
 use Rattle.grind_explain.specs.Explained.{IsReady, IsReason, HasReasons, Tells, Appends, EndsWith, AreJoinedWithin}
 use Rattle.grind_case_split.specs.declared.fact.Fact.{Fact}
 use Rattle.grind_case_split.specs.Congruences.{IsGiven, IsNodeOf, FollowsFromGiven, CongruenceEntails}
-use Rattle.grind_case_split.specs.Writing.{IsRooted, Claims, ClaimsStay}
-use Rattle.grind_case_split.specs.Building.{IsFounded, AreFounded, HasEnds, IsBuilt, AreAsserted, IsClosure}
-use Rattle.grind_case_split.specs.Given.{IsTold, IsGivenEdge, IsLedger, HasPair, CoversAll, IsRefuted, NoneRefuted}
+use Rattle.grind_case_split.specs.Writing.{IsRooted, Claims}
+use Rattle.grind_case_split.specs.Building.{IsFounded, AreFounded, HasEnds, IsClosure}
+use Rattle.grind_case_split.specs.Given.{IsTold, IsGivenEdge, IsLedger, CoversAll, IsRefuted, NoneRefuted}
 use Rattle.grind_case_split.proofs.BuildingLemmas.{All-contains}
 use Rattle.grind_case_split.proofs.LineLemmas.{rooted_terms, rooted_has_terms}
 use Rattle.grind_case_split.proofs.FactLemmas.{fact_denied}

@@ -1,22 +1,20 @@
 -- What the sources of a goal say of two terms.
-use Rattle.std.specs.Prelude.{◌≡◌, ℕ, zero, suc, ◌<◌, Bool, true, false, List, [], ◌∷◌, ◌++◌, Option, Some, None, IsSome, All, Contains, length, map, slice_get, take, drop, ◌⊎◌, refl}
+use Rattle.std.specs.Prelude.{◌≡◌, ℕ, zero, suc, ◌<◌, Bool, true, false, List, [], ◌∷◌, Some, All, Contains, length, map, slice_get, take, drop, refl}
 use Rattle.std.specs.Option.{IsSomeAnd}
-use Rattle.std.proofs.Common.{arith, sym, ap, ◌∙◌, subst, inl, inr}
+use Rattle.std.proofs.Common.{arith, sym, ap, subst, inl, inr}
 use Rattle.std.proofs.lemmas.List.{take-append-drop}
-use Rattle.std.proofs.lemmas.Option.{slice_get_within}
 use Rattle.grind_term_graph.specs.declared.head.Head.{Head}
 use Rattle.grind_term_graph.specs.declared.head.Head.TheVariants as head
 use Rattle.grind_term_graph.specs.declared.node.Node.{Node}
 use Rattle.grind_term_graph.specs.Terms.{prop, sort_at}
-use Rattle.grind_term_graph.specs.Shape.{IsTable, IsShaped, WellShaped, AreTwoAlike}
+use Rattle.grind_term_graph.specs.Shape.{IsTable, IsShaped}
 use Rattle.grind_term_graph.proofs.Tables.{WellShaped-at, WellShaped-append, sort_at-below}
 use Rattle.grind_schemes.specs.Goals.{GoalData, IsGoal, IsFormula}
 use Rattle.grind_proof_kernel.specs.Claims.{AreOfOneSort}
 use Rattle.grind_proof_kernel.specs.Rules.{IsEquation}
 use Rattle.grind_case_split.specs.declared.fact.Fact.{Fact}
-use Rattle.grind_case_split.specs.declared.fact.Reading.{Reading}
-use Rattle.grind_case_split.specs.Congruences.{IsNegation, IsEqual, IsUnequal, IsGiven, IsDenied}
-use Rattle.grind_case_split.specs.Facts.{IsReadAs, IsReading, IsSorted, IsSaid, IsFact, equates, HasFact}
+use Rattle.grind_case_split.specs.Congruences.{IsNegation, IsGiven, IsDenied}
+use Rattle.grind_case_split.specs.Facts.{IsReadAs, IsSorted, IsSaid, IsFact, equates, HasFact}
 use Rattle.grind_case_split.proofs.LawLemmas.{some_item, sides_within}
 
 -- a node of a table has arguments of the sorts that it asks for

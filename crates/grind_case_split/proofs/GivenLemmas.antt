@@ -1,6 +1,5 @@
 -- The pairs that a goal gives and denies, source by source.
-use Rattle.std.specs.Prelude.{◌≡◌, ℕ, zero, suc, ◌+◌, ◌<◌, ◌≤◌, Bool, true, false, List, [], ◌∷◌, ◌++◌, Option, Some, None, All, Contains, length, slice_get, ◌⊎◌, refl}
-use Rattle.std.specs.Option.{IsSomeAnd}
+use Rattle.std.specs.Prelude.{◌≡◌, ℕ, suc, ◌+◌, ◌<◌, Bool, true, false, List, [], ◌∷◌, ◌++◌, Some, Contains, length, slice_get, refl}
 use Rattle.std.proofs.Common.{arith, sym, ap, ◌∙◌, subst, inl, inr}
 use Rattle.std.proofs.lemmas.Bool.{cases_eq}
 use Rattle.std.proofs.lemmas.Option.{slice_get_within}
@@ -10,7 +9,6 @@ use Rattle.grind_term_graph.specs.declared.node.Node.{Node}
 use Rattle.grind_term_graph.specs.Shape.{IsTable}
 use Rattle.grind_schemes.specs.Goals.{GoalData, IsGoal}
 use Rattle.grind_schemes.specs.declared.lemmas.Lemmas.{Lemmas}
-use Rattle.grind_proof_kernel.specs.declared.claim.Claim.{Claim}
 use Rattle.grind_proof_kernel.specs.declared.claim.Claim.TheVariants.{Same}
 use Rattle.grind_proof_kernel.specs.declared.proof.Proof.{Proof}
 use Rattle.grind_proof_kernel.specs.Rules.{IsEquation}
@@ -22,8 +20,8 @@ use Rattle.grind_congruence.proofs.EdgeLemmas.{slice_get-last}
 use Rattle.grind_explain.specs.declared.why.Why.{Why}
 use Rattle.grind_explain.specs.declared.why.Why.TheVariants as why
 use Rattle.grind_case_split.specs.declared.fact.Fact.{Fact}
-use Rattle.grind_case_split.specs.Congruences.{IsNegation, IsGiven, IsDenied}
-use Rattle.grind_case_split.specs.Facts.{IsReadAs, IsSaid, IsFact, HasFact, equates, sides_claim}
+use Rattle.grind_case_split.specs.Congruences.{IsNegation}
+use Rattle.grind_case_split.specs.Facts.{IsReadAs, IsSaid, IsFact, equates, sides_claim}
 use Rattle.grind_case_split.specs.Writing.{IsWritten, ClaimsStay}
 use Rattle.grind_case_split.specs.Building.{HasEnds}
 use Rattle.grind_case_split.specs.Given.{IsTold, IsGivenEdge, IsLedger, HasPair, KeepsPairs, Covers, CoversBelow, CoversAll, IsRefuted, HoldsOut, HoldsOutBelow, NoneRefuted}

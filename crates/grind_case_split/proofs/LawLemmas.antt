@@ -1,18 +1,18 @@
 -- Goals that say nothing but which terms are equal and different.
-use Rattle.std.specs.Prelude.{◌≡◌, ℕ, zero, suc, ◌<◌, List, [], ◌∷◌, Option, Some, None, All, Contains, length, slice_get, take, ◌⊎◌, ◌↔◌, refl}
+use Rattle.std.specs.Prelude.{◌≡◌, ℕ, ◌<◌, List, [], ◌∷◌, Option, Some, None, All, Contains, length, slice_get, take, refl}
 use Rattle.std.specs.Option.{IsSomeAnd}
-use Rattle.std.proofs.Common.{arith, sym, ap, ◌∙◌, subst, inl, inr}
+use Rattle.std.proofs.Common.{arith, subst, inl, inr}
 use Rattle.std.proofs.lemmas.List.{length-take-le}
 use Rattle.std.proofs.lemmas.Option.{slice_get_within}
 use Rattle.std.proofs.lemmas.List.Elements.{All-nil, All-cons}
 use Rattle.grind_term_graph.specs.declared.head.Head.TheVariants as head
 use Rattle.grind_term_graph.specs.declared.node.Node.{Node}
-use Rattle.grind_term_graph.specs.Shape.{IsTable, WellShaped}
+use Rattle.grind_term_graph.specs.Shape.{IsTable}
 use Rattle.grind_term_graph.proofs.Tables.{WellShaped-at}
 use Rattle.grind_schemes.specs.Goals.{GoalData}
 use Rattle.grind_proof_kernel.specs.Rules.{IsEquation}
 use Rattle.grind_congruence.specs.Derivable.Derivable.{given}
-use Rattle.grind_case_split.specs.Congruences.{IsNegation, IsEqual, IsUnequal, IsGiven, IsDenied, FollowsFromGiven, CongruenceEntails, IsAnswered, ComparesTerms}
+use Rattle.grind_case_split.specs.Congruences.{IsGiven, IsDenied, CongruenceEntails, ComparesTerms}
 use Rattle.grind_case_split.specs.Laws.{GroundGoals}
 
 -- what an optional value satisfies, it satisfies as a value

@@ -1,10 +1,10 @@
 -- Lines put behind a proof whose lines stand in the root.
-use Rattle.std.specs.Prelude.{◌≡◌, ◌==◌, ℕ, zero, suc, ◌+◌, ◌<◌, ◌≤◌, Bool, true, false, List, [], ◌∷◌, ◌++◌, Option, Some, None, All, length, find, reverse, slice_get, refl}
-use Rattle.std.specs.Option.{IsSomeAnd, option_map}
+use Rattle.std.specs.Prelude.{◌≡◌, ◌==◌, ℕ, zero, suc, ◌+◌, ◌<◌, ◌≤◌, true, List, [], ◌∷◌, ◌++◌, Option, Some, None, All, length, reverse, slice_get, refl}
+use Rattle.std.specs.Option.{IsSomeAnd}
 use Rattle.std.proofs.Common.{arith, sym, ap, ◌∙◌, subst, inl, inr, length-append}
 use Rattle.std.proofs.lemmas.Bool.{cases_eq}
 use Rattle.std.proofs.lemmas.List.{append-nil, reverse-append}
-use Rattle.std.proofs.lemmas.List.Elements.{All-nil, All-cons, All-push, All-weaker}
+use Rattle.std.proofs.lemmas.List.Elements.{All-push, All-weaker}
 use Rattle.grind_term_graph.specs.declared.node.Node.{Node}
 use Rattle.grind_term_graph.specs.Terms.{Terms}
 use Rattle.grind_schemes.specs.Goals.{GoalData}
@@ -17,14 +17,13 @@ use Rattle.grind_proof_kernel.specs.declared.proof.Proof.{Proof}
 use Rattle.grind_proof_kernel.specs.declared.proof.Rule.{Rule}
 use Rattle.grind_proof_kernel.specs.Claims.{IsFormed, claim_at, claims_at}
 use Rattle.grind_proof_kernel.specs.Rules.{Says}
-use Rattle.grind_proof_kernel.specs.Typing.{HasTerms, Reaches, Serves, IsTypedAs, TypedLine, IsClosed, IsGoodBranch, Typed, last_in, appended}
+use Rattle.grind_proof_kernel.specs.Typing.{HasTerms, Reaches, Serves, IsTypedAs, TypedLine, IsClosed, IsGoodBranch, last_in, appended}
 use Rattle.grind_proof_kernel.specs.Laws.{Extends}
 use Rattle.grind_proof_kernel.proofs.Growth.{field_is_still}
 use Rattle.grind_proof_kernel.proofs.BranchGrowth.{some_and_then}
 use Rattle.grind_proof_kernel.proofs.LawLemmas.{typed_lines_stay_lem, typed_next_line_lem}
-use Rattle.grind_explain.specs.Explained.{AreTyped}
 use Rattle.grind_case_split.specs.Congruences.{IsProofOf}
-use Rattle.grind_case_split.specs.Writing.{IsRooted, Claims, ClaimsStay, IsWritten, root_line}
+use Rattle.grind_case_split.specs.Writing.{IsRooted, ClaimsStay, IsWritten, root_line}
 
 -- what holds of all items holds of each that stands there
 pub some_of_all : {X : Type 0} (P : X → Type 0) (xs : List X) (i : ℕ) → All P xs → i < length xs → IsSomeAnd (slice_get xs i) P

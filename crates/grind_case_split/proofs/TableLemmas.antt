@@ -1,13 +1,12 @@
 -- The table of one free formula: where the formula that it negates is known, so is the formula, and the other way round.
-use Rattle.std.specs.Prelude.{◌≡◌, ◌≢◌, ℕ, zero, suc, ◌+◌, ◌<◌, ◌≤◌, Bool, true, false, not, nat_eq, List, [], ◌∷◌, ◌++◌, Option, Some, None, IsSome, All, length, map, take, slice_get, option_and_then, if◌then◌else◌, refl}
-use Rattle.std.specs.Option.{IsSomeAnd, option_map, option_or}
-use Rattle.std.specs.List.{AllPairs}
-use Rattle.std.proofs.Common.{arith, sym, ap, ◌∙◌, subst, inl, inr, length-append, lit≤}
-use Rattle.std.proofs.lemmas.Bool.{ne_eqb, cases_Bool}
+use Rattle.std.specs.Prelude.{◌≡◌, ℕ, zero, suc, ◌+◌, ◌<◌, Bool, true, false, not, List, [], ◌∷◌, ◌++◌, Option, Some, None, IsSome, All, length, map, take, slice_get, if◌then◌else◌, refl}
+use Rattle.std.specs.Option.{option_map, option_or}
+use Rattle.std.proofs.Common.{arith, sym, ap, ◌∙◌, subst, inl, inr, length-append}
+use Rattle.std.proofs.lemmas.Bool.{ne_eqb}
 use Rattle.std.proofs.lemmas.Bool.Decides.{eqb_tells}
 use Rattle.std.proofs.lemmas.List.{length-take-le}
-use Rattle.std.proofs.lemmas.List.Elements.{All-nil, All-cons, All-head}
-use Rattle.std.proofs.lemmas.Option.{slice_get_within, slice_get_cases}
+use Rattle.std.proofs.lemmas.List.Elements.{All-nil, All-cons}
+use Rattle.std.proofs.lemmas.Option.{slice_get_within}
 use Rattle.grind_term_graph.specs.declared.head.Head.TheVariants as head
 use Rattle.grind_term_graph.specs.declared.head.Head.{Head}
 use Rattle.grind_term_graph.specs.declared.node.Node.{Node}
@@ -15,7 +14,7 @@ use Rattle.grind_term_graph.specs.Terms.{prop, sort_at}
 use Rattle.grind_term_graph.specs.Shape.{IsTable}
 use Rattle.grind_term_graph.proofs.Tables.{WellShaped-at}
 use Rattle.grind_proof_kernel.specs.declared.claim.Claim.{Claim}
-use Rattle.grind_proof_kernel.specs.Tables.{free_truth, of_one, joined_truth, truth_at, node_truth, truths_of, truth_of, literal_truth, conclusion_truth, premise_truth, Follows, IsTable as IsTruthTable}
+use Rattle.grind_proof_kernel.specs.Tables.{free_truth, of_one, joined_truth, truth_at, node_truth, truths_of, truth_of, premise_truth, Follows, IsTable as IsTruthTable}
 use Rattle.grind_proof_kernel.proofs.TruthLemmas.{first_truths_agree, truths_next}
 use Rattle.grind_case_split.specs.Congruences.{IsNegation}
 use Rattle.grind_case_split.specs.Facts.{literal}

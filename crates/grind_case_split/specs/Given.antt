@@ -1,5 +1,4 @@
--- What is kept while the given pairs of a goal are written down, and which facts a closure refutes. No public clause cites these
--- words.
+-- What is kept while the given pairs of a goal are written down, and which facts a closure refutes.
 use Rattle.std.specs.Prelude.{◌≡◌, ℕ, ◌<◌, true, false, List, Some, All, Contains, slice_get}
 use Rattle.grind_schemes.specs.Goals.{GoalData}
 use Rattle.grind_schemes.specs.declared.lemmas.Lemmas.{Lemmas}

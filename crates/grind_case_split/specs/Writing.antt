@@ -1,5 +1,5 @@
--- What is kept while a proof is written. No public clause cites these words.
-use Rattle.std.specs.Prelude.{◌≡◌, ℕ, List, [], ◌∷◌, Some, All}
+-- What is kept while a proof is written.
+use Rattle.std.specs.Prelude.{◌≡◌, ℕ, List, [], Some, All}
 use Rattle.grind_schemes.specs.Goals.{GoalData}
 use Rattle.grind_schemes.specs.declared.lemmas.Lemmas.{Lemmas}
 use Rattle.grind_proof_kernel.specs.declared.claim.Claim.{Claim}

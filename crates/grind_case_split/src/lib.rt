@@ -4,6 +4,7 @@
 
 mod building;
 mod closing;
+pub mod equations;
 mod fact;
 mod given;
 pub mod laws;
@@ -11,5 +12,6 @@ mod lines;
 pub mod plain;
 mod refuted;
 
+pub use equations::{Equations, equations_of};
 pub use laws::ground_goals;
 pub use plain::{Plain, solve_goal};

@@ -1,14 +1,11 @@
 //! The answer to a goal by congruence.
-ghost use Rattle.std.specs.Prelude.{◌≡◌, ◌∷◌, [], IfOk};
-ghost use Rattle.grind_explain.specs.declared.why.Why.TheVariants.{Congruence};
+ghost use Rattle.std.specs.Prelude.{IfOk};
 ghost use Rattle.grind_case_split.specs.Congruences.{IsRightFor, IsDecided};
 
-use crate::building::closure_of;
-use crate::closing::{by_hypothesis, empty_proof, place_of_conclusion, refute};
-use crate::given::write_all;
+use crate::closing::{by_hypothesis, place_of_conclusion, refute};
+use crate::equations::{Equations, equations_of};
 use crate::refuted::first_refuted;
-use grind_explain::Why;
-use grind_outside::{List, Memory};
+use grind_outside::Memory;
 use grind_proof_kernel::Proof;
 use grind_schemes::{Goal, Lemmas};
 use std::alloc::Global;
@@ -39,25 +36,17 @@ pub fn solve_goal(alloc: Global, lemmas: &Lemmas, goal: &Goal) -> Result<Plain, 
     Ok(answer)
 }
 
-// The reasons before any pair is written: the number 0 is for congruences.
-fn first_whys(alloc: Global) -> Result<List<Why>, Memory>
-    ensures { IfOk result (λ whys. whys ≡ Congruence ∷ []) }
-{
-    let mut whys = List::new(alloc);
-    whys.push(Why::Congruence)?;
-    Ok(whys)
-}
-
 // Closes a goal that follows by congruence, and no other.
 fn by_congruence(alloc: Global, lemmas: &Lemmas, goal: &Goal) -> Result<Plain, Memory>
     ensures { IfOk result (IsDecided lemmas.now goal.now) }
 {
     let _count = goal.terms.len();
-    let mut proof = empty_proof(alloc, lemmas, goal)?;
-    let mut whys = first_whys(alloc)?;
-    let mut given = List::new(alloc);
-    write_all(alloc, lemmas, goal, &mut proof, &mut whys, &mut given)?;
-    let closure = closure_of(alloc, goal.terms(), given.as_slice())?;
+    let Equations {
+        mut proof,
+        whys,
+        given: _,
+        closure,
+    } = equations_of(alloc, lemmas, goal)?;
     let _classes = closure.classes();
     let Some(fact) = first_refuted(goal, &closure) else {
         return Ok(Plain::Unexplored);

@@ -6,6 +6,8 @@ mod branch_tests;
 #[cfg(test)]
 mod checker_tests;
 #[cfg(test)]
+mod explain_tests;
+#[cfg(test)]
 mod made_goal;
 #[cfg(test)]
 mod parallel_tests;

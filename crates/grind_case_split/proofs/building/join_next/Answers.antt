@@ -1,9 +1,8 @@
-use Rattle.std.specs.Prelude.{◌≡◌, Option, None, Some, IfSome, IsNone, refl}
+use Rattle.std.specs.Prelude.{Option, Some, IfSome, IsNone}
 use Rattle.std.proofs.Common.{sym, subst, rules}
 use Rattle.grind_classes.specs.Classes.{AreTogether}
 use Rattle.grind_congruence.specs.declared.edge.Found.{Found}
 use Rattle.grind_congruence.specs.Congruence.{Congruence, IsAtRest}
-use Rattle.grind_case_split.specs.Building.{HasRest}
 use Rattle.grind_case_split.proofs.building.join_next.Goals as goal
 
 pub returns-in_default : goal.returns-in_default

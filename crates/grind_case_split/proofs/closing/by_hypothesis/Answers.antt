@@ -1,5 +1,4 @@
-use Rattle.std.specs.Prelude.{◌≡◌}
-use Rattle.grind_proof_kernel.specs.declared.claim.Claim.TheVariants.{Holds, Fails}
+use Rattle.grind_proof_kernel.specs.declared.claim.Claim.TheVariants.{Holds}
 use Rattle.grind_case_split.proofs.DecidingLemmas.{opposed_clash}
 use Rattle.grind_case_split.proofs.closing.by_hypothesis.Goals as goal
 

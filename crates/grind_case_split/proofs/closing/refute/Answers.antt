@@ -1,4 +1,4 @@
-use Rattle.std.specs.Prelude.{◌≡◌, Bool, Some}
+use Rattle.std.specs.Prelude.{Bool, Some}
 use Rattle.std.proofs.Common.{ap, ◌∙◌}
 use Rattle.grind_proof_kernel.specs.declared.claim.Claim.TheVariants.{Same, Differ}
 use Rattle.grind_case_split.specs.Facts.{sides_claim}

@@ -1,4 +1,4 @@
-use Rattle.std.specs.Prelude.{◌≡◌, true, false, refl}
+use Rattle.std.specs.Prelude.{true, false, refl}
 use Rattle.grind_case_split.proofs.FactLemmas.{read_sorted, formula_within}
 use Rattle.grind_case_split.proofs.fact.read.Goals as goal
 

@@ -1,5 +1,4 @@
-use Rattle.std.specs.Prelude.{◌≡◌, true, false}
-use Rattle.std.proofs.Common.{sym, ◌∙◌}
+use Rattle.std.specs.Prelude.{◌≡◌, false}
 use Rattle.grind_case_split.specs.Facts.{equates}
 use Rattle.grind_case_split.proofs.GivenLemmas.{Covers-difference, Covers-pair}
 use Rattle.grind_case_split.proofs.given.write_source.Goals as goal

@@ -7,7 +7,6 @@ use Rattle.grind_schemes.specs.Goals.{GoalData}
 use Rattle.grind_proof_kernel.specs.declared.claim.Claim.{Claim}
 use Rattle.grind_proof_kernel.specs.Claims.{claim_at}
 use Rattle.grind_proof_kernel.specs.Tables.{IsTable}
-use Rattle.grind_case_split.specs.Congruences.{IsNegation}
 use Rattle.grind_case_split.specs.Facts.{literal, IsReadAs}
 use Rattle.grind_case_split.proofs.TableLemmas.{turned_table}
 use Rattle.grind_case_split.proofs.lines.turned_line.Goals as goal

@@ -1,5 +1,5 @@
 use Rattle.std.specs.Prelude.{◌≡◌, [], length, IsNone}
-use Rattle.std.proofs.Common.{arith, sym, ap, ◌∙◌, subst, rules}
+use Rattle.std.proofs.Common.{arith, ap, ◌∙◌, subst, rules}
 use Rattle.grind_term_graph.specs.Terms.{Terms}
 use Rattle.grind_term_graph.specs.Shape.{IsTable}
 use Rattle.grind_schemes.specs.Goals.{GoalData}

@@ -1,4 +1,4 @@
-use Rattle.std.specs.Prelude.{◌≡◌, ℕ, List}
+use Rattle.std.specs.Prelude.{ℕ, List}
 use Rattle.std.proofs.Common.{sym, subst}
 use Rattle.grind_classes.specs.Classes.{IsActive}
 use Rattle.grind_case_split.proofs.refuted.is_refuted.Goals as goal

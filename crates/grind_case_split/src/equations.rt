@@ -1,0 +1,78 @@
+//! The equations that a goal gives.
+ghost use Rattle.std.specs.Prelude.{◌≡◌, ◌∷◌, ◌<◌, ℕ, [], All, IfOk, length};
+ghost use Rattle.grind_classes.specs.Classes.{IsActive};
+ghost use Rattle.grind_congruence.specs.Congruence.{Fits};
+ghost use Rattle.grind_explain.specs.declared.why.Why.TheVariants.{Congruence};
+ghost use Rattle.grind_explain.specs.Explained.{IsReady, HasReasons};
+ghost use Rattle.grind_case_split.specs.Building.{HasEnds, IsClosure};
+ghost use Rattle.grind_case_split.specs.Given.{IsLedger, CoversAll};
+
+use crate::building::closure_of;
+use crate::closing::empty_proof;
+use crate::given::write_all;
+use grind_congruence::{Closure, Edge};
+use grind_explain::Why;
+use grind_outside::{List, Memory};
+use grind_proof_kernel::Proof;
+use grind_schemes::{Goal, Lemmas};
+use std::alloc::Global;
+
+/// What the equations that a goal gives come to.
+#[derive(Drop)]
+pub struct Equations {
+    /// A proof over the terms of the goal, with a line for each of them.
+    pub proof: Proof,
+    /// Why they hold, by the numbers that the edges have: a congruence at 0, and else the line.
+    pub whys: List<Why>,
+    /// The equations as edges, each with the number of why it holds.
+    pub given: List<Edge>,
+    /// Their closure under congruence, over all terms of the goal.
+    pub closure: Closure,
+}
+
+/// The equations that a goal gives, a line for each of them, and their closure under congruence. Any two terms that are
+/// together there can be explained.
+///
+/// # Errors
+///
+/// `Memory`.
+pub fn equations_of(alloc: Global, lemmas: &Lemmas, goal: &Goal) -> Result<Equations, Memory>
+    ensures ledger { IfOk result (λ it. IsLedger lemmas.now goal.now it.proof it.whys it.given) }
+    ensures covers { IfOk result (λ it. CoversAll goal.now it.given) }
+    ensures closure { IfOk result (λ it. IsClosure goal.now.terms.nodes it.given it.closure) }
+
+    ensures active { IfOk result (λ it. (n : ℕ) → n < length goal.now.terms.nodes → IsActive it.closure.lists n) }
+    ensures fits { IfOk result (λ it. Fits it.closure.lists it.proof.terms.nodes) }
+    ensures ready { IfOk result (λ it. IsReady lemmas.now goal.now it.proof 0) }
+    ensures reasons { IfOk result (λ it. (count : ℕ) → HasReasons it.proof 0 it.closure.edges it.whys count) }
+{
+    let mut proof = empty_proof(alloc, lemmas, goal)?;
+    let mut whys = first_whys(alloc)?;
+    let mut given = List::new(alloc);
+    write_all(alloc, lemmas, goal, &mut proof, &mut whys, &mut given)?;
+    let closure = closed(alloc, goal, &given)?;
+    Ok(Equations {
+        proof,
+        whys,
+        given,
+        closure,
+    })
+}
+
+// The reasons before any pair is written: the number 0 is for congruences.
+fn first_whys(alloc: Global) -> Result<List<Why>, Memory>
+    ensures { IfOk result (λ whys. whys ≡ Congruence ∷ []) }
+{
+    let mut whys = List::new(alloc);
+    whys.push(Why::Congruence)?;
+    Ok(whys)
+}
+
+// The closure of given equations over all terms of the goal.
+fn closed(alloc: Global, goal: &Goal, given: &List<Edge>) -> Result<Closure, Memory>
+    requires { All (HasEnds goal.now.terms.nodes) given.now }
+    ensures { IfOk result (λ closure. IsClosure goal.now.terms.nodes given.now closure) }
+{
+    let closure = closure_of(alloc, goal.terms(), given.as_slice())?;
+    Ok(closure)
+}
