@@ -63,7 +63,40 @@ def wide_goals(size):
     return filled(size, first, lambda i: f"goal g{i} ({binders}: S): |- {row[0]} = {row[0]}.\n")
 
 
-FAMILIES = [many_goals, many_functions, one_comment, deep_terms, wide_goals]
+def one_goal(size):
+    """One goal of some 65,000 different nodes at 4 MiB, which is one of its hypotheses."""
+    names = [f"a_constant_with_a_rather_long_name_{i:05}" for i in range(size * 32_000 // LIMIT)]
+    row = names
+    while len(row) > 1:
+        row = [f"p({a},{b})" for a, b in zip(row[::2], row[1::2])] + row[len(row) & ~1:]
+    formula = f"{row[0]} = {names[0]}"
+    return f"sort S. fun p(S, S): S.\ngoal g ({' '.join(names)}: S): {formula} |- {formula}.\n"
+
+
+def one_name(size):
+    """One name of 255 bytes, in as many hypotheses as there is room for."""
+    name = "n" * 255
+    formula = f"{name} = {name}"
+    count = (size - 600) // (len(formula) + 3)
+    return f"sort S.\ngoal g ({name}: S): {' ; '.join([formula] * count)} |- {formula}.\n"
+
+
+def many_theorems(size):
+    """Theorems with a variable and a pattern, and one goal at the end."""
+    first = "sort S. fun f(S): S.\n"
+    return filled(size, first, lambda i: f"theorem t{i} (x: S) [=]: f(f(x)) = x.\n", "goal g (a: S): |- a = a.\n")
+
+
+FAMILIES = [
+    many_goals,
+    many_functions,
+    many_theorems,
+    one_goal,
+    one_name,
+    one_comment,
+    deep_terms,
+    wide_goals,
+]
 
 
 def run(program, path):

@@ -10,4 +10,6 @@ mod made_goal;
 #[cfg(test)]
 mod rule_tests;
 #[cfg(test)]
+mod signature_tests;
+#[cfg(test)]
 mod spelled;

@@ -123,7 +123,7 @@ pub fn goal_of(
 }
 
 /// Whether these bytes name something in a report.
-fn is_label(bytes: &[u8]) -> bool
+pub fn is_label(bytes: &[u8]) -> bool
     ensures { IsTrue result → IsLabel bytes.now }
 {
     !bytes.is_empty()

@@ -144,7 +144,7 @@ module _ (vars : List ℕ) where
     formed_copy (Apply' head sort shape args) (Var other) c h = absurd c
     formed_copy (Apply' head sort shape args) (Apply' other_head other_sort other_shape others) c h = (
       shaped_copy head other_head sort other_sort (row_sorts vars args) (row_sorts vars others) c.0 c.1
-        (sorts_copy _ args _ others c.2) h.0,
+          (sorts_copy _ args _ others c.2) h.0,
       formed_copy_row _ args _ others c.2 h.1,
     )
 

@@ -35,7 +35,7 @@ left_is_chosen f g sort inner outer sides x fx parts = (
   Apply (Fun g) sort outer,
   Var 0,
   subst (IsEquation (Apply (Fun g) sort outer) (Var 0)) (sym (own_conclusion (Apply Eq prop sides) refl))
-    (refl, items_hidden-the_row-Scheme-0 sides ∙ parts),
+      (refl, items_hidden-the_row-Scheme-0 sides ∙ parts),
   refl,
 )
 
@@ -48,12 +48,12 @@ pub takes_it_alone : (before after : List Scheme) (f sort : ℕ) (args : Vec Sch
     → IsPatternTerm (Apply (Fun f) sort args) → HasUncovered before (Apply (Fun f) sort args)
     → Walks before (Apply (Fun f) sort args) after → after ≡ before ++ Apply (Fun f) sort args ∷ []
 takes_it_alone before after f sort args pattern uncovered (inl takes) = alone takes.1
-    where
-      alone : (HasUncovered before (Apply (Fun f) sort args) × (after ≡ before ++ Apply (Fun f) sort args ∷ []))
-          ⊎ (¬ HasUncovered before (Apply (Fun f) sort args) × (after ≡ before))
-          → after ≡ before ++ Apply (Fun f) sort args ∷ []
-      alone (inl h) = h.1
-      alone (inr h) = absurd (h.0 uncovered)
+  where
+    alone : (HasUncovered before (Apply (Fun f) sort args) × (after ≡ before ++ Apply (Fun f) sort args ∷ []))
+        ⊎ (¬ HasUncovered before (Apply (Fun f) sort args) × (after ≡ before))
+        → after ≡ before ++ Apply (Fun f) sort args ∷ []
+    alone (inl h) = h.1
+    alone (inr h) = absurd (h.0 uncovered)
 takes_it_alone before after f sort args pattern uncovered (inr inside) = absurd (inside.0 pattern)
 
 -- and one that does not take it goes not inside it either
@@ -61,9 +61,9 @@ pub leaves_it_alone : (before after : List Scheme) (f sort : ℕ) (args : Vec Sc
     → IsPatternTerm (Apply (Fun f) sort args) → ¬ HasUncovered before (Apply (Fun f) sort args)
     → Walks before (Apply (Fun f) sort args) after → after ≡ before
 leaves_it_alone before after f sort args pattern covered (inl takes) = alone takes.1
-    where
-      alone : (HasUncovered before (Apply (Fun f) sort args) × (after ≡ before ++ Apply (Fun f) sort args ∷ []))
-          ⊎ (¬ HasUncovered before (Apply (Fun f) sort args) × (after ≡ before)) → after ≡ before
-      alone (inl h) = absurd (covered h.0)
-      alone (inr h) = h.1
+  where
+    alone : (HasUncovered before (Apply (Fun f) sort args) × (after ≡ before ++ Apply (Fun f) sort args ∷ []))
+        ⊎ (¬ HasUncovered before (Apply (Fun f) sort args) × (after ≡ before)) → after ≡ before
+    alone (inl h) = absurd (covered h.0)
+    alone (inr h) = h.1
 leaves_it_alone before after f sort args pattern covered (inr inside) = absurd (inside.0 pattern)

@@ -202,7 +202,7 @@ named limits.Instances = refl
 named limits.Cuts = refl
 named limits.Pairs = refl
 
-same_kind : (a b : LimitKind) → limit_name a ≡ limit_name b → a ≡ b
+pub same_kind : (a b : LimitKind) → limit_name a ≡ limit_name b → a ≡ b
 same_kind a b e = sym (named a) ∙ ap (λ (n : List ℕ). kind_of (length n)) e ∙ named b
 
 abbrev signature_of : State → SignatureData

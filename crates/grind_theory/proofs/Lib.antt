@@ -10,4 +10,11 @@ mod Underway
 mod DeclTaking
 mod LawLemmas
 mod SamePatterns
+mod AnnotationLaws
 mod TheoremTaking
+mod TheoremMaking
+mod TheoremNodes
+mod OneNames
+mod OnePatterns
+mod OneGoals
+mod OneTheory

@@ -217,7 +217,8 @@ no_copies [] ys h e = refl
 no_copies (x ∷ xs) [] h e = absurd h
 no_copies (x ∷ xs) (y ∷ ys) h e = absurd cc
 
-chooses-copy : (body other : Scheme) (kind own : Kind) (chosen : List Scheme) → IsCopy body other → AreKindCopies kind own → Chooses body kind chosen
+-- what a kind chooses of the one, it chooses copies of from the other
+pub chooses-copy : (body other : Scheme) (kind own : Kind) (chosen : List Scheme) → IsCopy body other → AreKindCopies kind own → Chooses body kind chosen
     → (more : List Scheme) × Chooses other own more × AreCopies chosen more
 chooses-copy body other Left Left chosen c k h =
     let x = equation-copy h.0 h.1 (conclusion_of body) (conclusion_of other) (conclusion-copy body other c) h.2 in

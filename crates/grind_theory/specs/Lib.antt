@@ -1,3 +1,4 @@
+pub mod Annotating
 pub mod Asking
 pub mod Building
 pub mod Declaring
@@ -5,4 +6,5 @@ pub mod Faults
 pub mod Kept
 pub mod Laws
 pub mod States
+pub mod Theorems
 pub mod Theories

@@ -2,6 +2,7 @@
 //! search, and the terms of each goal; or the first declaration that is bad, and what is wrong with it.
 #![tactic(auto)]
 
+mod annotations;
 mod binders;
 mod declarations;
 pub mod elaborate;
@@ -11,6 +12,7 @@ pub mod laws;
 mod limits;
 mod patterns;
 mod sorts;
+mod theorem_sizes;
 mod theorems;
 pub mod theory;
 

@@ -45,6 +45,6 @@ returns-clause-formed c = λ body_formed kind_formed.
     let each = c.hold_each.ensures.0 c.if-not-hold_each.false in
     patterns_formed c.args.vars.now c.args.body.now c.args.kind.now c.in-Some.terms
     (are_patterns c.args.vars.now c.args.body.now c.args.kind.now c.in-Some.terms found
-      (subst (All IsPatternTerm) c.as_slice.ensures.value all)
-      (subst (HoldsEach c.args.vars.now) c.as_slice-2.ensures.value each))
+    (subst (All IsPatternTerm) c.as_slice.ensures.value all)
+    (subst (HoldsEach c.args.vars.now) c.as_slice-2.ensures.value each))
     body_formed kind_formed
