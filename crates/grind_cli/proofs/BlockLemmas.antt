@@ -32,10 +32,10 @@ pub spells_block : (signature : SignatureData) (lemmas : Lemmas) (goal : GoalDat
 spells_block signature lemmas goal (outcomes.Closed proof) closed bytes block p (raw, is, of) fits spelled closed_is =
     let P : Block → Type 0 = λ b. BlockFits b → bytes ≡ block_bytes b → SpellsBlock signature lemmas goal closed bytes b in
     subst P (sym is)
-    (λ f s. record { answers = (refl, p.answered, (proof, record { spelled = of; typed = p.typed; true_everywhere = p.true_everywhere })); fits = f; bytes_are = s; closed_is = closed_is })
+    (λ f s. record { answers = (refl, p.answered, p.entailed, (proof, record { spelled = of; typed = p.typed; true_everywhere = p.true_everywhere })); fits = f; bytes_are = s; closed_is = closed_is })
     fits spelled
 spells_block signature lemmas goal outcomes.Unexplored closed bytes block p is fits spelled closed_is =
     let P : Block → Type 0 = λ b. BlockFits b → bytes ≡ block_bytes b → SpellsBlock signature lemmas goal closed bytes b in
     subst P (sym is)
-    (λ f s. record { answers = (refl, p); fits = f; bytes_are = s; closed_is = closed_is })
+    (λ f s. record { answers = (refl, p.0, p.1); fits = f; bytes_are = s; closed_is = closed_is })
     fits spelled

@@ -15,10 +15,11 @@ use Rattle.grind_proof_kernel.specs.declared.proof.Rule.TheVariants as rules
 use Rattle.grind_proof_kernel.specs.Laws.{IsPremiseCount, TypedLinesCount}
 use Rattle.grind_proof_kernel.specs.Typing.{Typed}
 use Rattle.grind_value_tables.specs.Laws.{TypedIsTrue}
-use Rattle.grind_case_split.specs.Congruences.{IsAnswered, IsProofOf}
+use Rattle.grind_case_split.specs.Congruences.{IsAnswered, CongruenceEntails, IsProofOf}
+use Rattle.grind_case_split.specs.Laws.{GroundGoals}
 use Rattle.grind_report.specs.Report.{TakesPremises}
 use Rattle.grind_report.specs.Blocks.{widest}
-use Rattle.grind_cli.specs.Answers.{IsTrueEverywhere}
+use Rattle.grind_cli.specs.Answers.{IsTrueEverywhere, IsGroundGoal}
 use Rattle.grind_cli.specs.Outcomes.{ProvesGoal}
 
 -- as many premises as a rule asks for are as many as are printed with it
@@ -55,13 +56,18 @@ counted law lemmas goal proof typed =
     (λ line h. takes_premises line.rule (length line.premises) h) proof.lines
     (λ i within. law lemmas goal proof i (typed.lines i within)))
 
--- what is known of a goal: what it keeps, its table, and what a typed proof means
+-- what is known of a goal: what it keeps, its table, what a typed proof means, and what decides a ground equality goal
 pub record Known (goal : GoalData) : Type 0 where
   pub keeps : IsGoal goal
   pub table : IsTable [] goal.terms.nodes
   pub begun : IsBegun goal.terms.nodes
   pub meaning : TypedIsTrue
   pub counts : TypedLinesCount
+  pub decided : GroundGoals
+
+-- a goal that is not answered does not follow by congruence
+pub not_entailed : (goal : GoalData) → ¬ IsAnswered goal → (¬ IsAnswered goal) × (IsGroundGoal goal → ¬ CongruenceEntails goal)
+not_entailed goal unanswered = (unanswered, λ compares entails. unanswered (inr entails))
 
 module _ (lemmas : Lemmas) (goal : GoalData) (known : Known goal) where
   is_wide : IsTermTable goal.terms.nodes widest
@@ -79,6 +85,7 @@ module _ (lemmas : Lemmas) (goal : GoalData) (known : Known goal) where
   pub ProvesGoal-typed : (proof : Proof) → IsAnswered goal → IsProofOf lemmas goal proof → ProvesGoal lemmas goal proof
   ProvesGoal-typed proof answered proves = record {
     answered = answered;
+    entailed = λ compares. (known.decided goal known.table compares.0 compares.1).0 answered;
     typed = proves.typed;
     true_everywhere = true_everywhere proof proves;
     nodes = ap (λ (t : Terms). t.nodes) proves.terms;

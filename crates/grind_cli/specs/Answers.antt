@@ -1,11 +1,11 @@
 -- What `solve` answers for a theory: a block for each goal.
-use Rattle.std.specs.Prelude.{◌≡◌, ◌⊎◌, ℕ, ℤ, List, [], ◌∷◌, ◌++◌, length, flat_map, Option}
+use Rattle.std.specs.Prelude.{◌≡◌, ◌⊎◌, ℕ, ℤ, List, [], ◌∷◌, ◌++◌, length, flat_map, All, Option}
 use Rattle.std.specs.List.{AllByRecursion, AllZip}
 use Rattle.grind_outside.specs.Outside.{appended, IsFront}
 use Rattle.grind_schemes.specs.Goals.{GoalData}
 use Rattle.grind_schemes.specs.declared.lemmas.Lemmas.{Lemmas}
 use Rattle.grind_proof_kernel.specs.declared.proof.Proof.{Proof}
-use Rattle.grind_case_split.specs.Congruences.{IsAnswered}
+use Rattle.grind_case_split.specs.Congruences.{IsAnswered, CongruenceEntails, ComparesTerms}
 use Rattle.grind_proof_kernel.specs.Typing.{Typed}
 use Rattle.grind_signature.specs.Signatures.{SignatureData}
 use Rattle.grind_value_tables.specs.Respects.{Respects}
@@ -23,12 +23,19 @@ pub record Proves (signature : SignatureData) (lemmas : Lemmas) (goal : GoalData
   pub typed : Typed lemmas goal proof
   pub true_everywhere : IsTrueEverywhere goal proof
 
+-- a ground equality goal: each of its hypotheses, and its conclusion, says that two terms are equal or that they are different
+abbrev pub IsGroundGoal : GoalData → Type 0
+IsGroundGoal goal = All (ComparesTerms goal) goal.hyps × ComparesTerms goal goal.show
+
 -- the block answers the goal. It has the goal's name. A goal is closed exactly where its conclusion is one of its
--- hypotheses or congruence entails it, and a closed block proves it.
+-- hypotheses or congruence entails it, so a ground equality goal exactly where congruence entails it; and a closed block
+-- proves it.
 abbrev pub AnswersGoal : SignatureData → Lemmas → GoalData → Block → Type 0
 AnswersGoal signature lemmas goal (Closed name raw) =
-    (name ≡ goal.name) × IsAnswered goal × ((proof : Proof) × Proves signature lemmas goal raw proof)
-AnswersGoal signature lemmas goal (Unexplored name) = (name ≡ goal.name) × ¬ IsAnswered goal
+    (name ≡ goal.name) × IsAnswered goal × (IsGroundGoal goal → CongruenceEntails goal)
+    × ((proof : Proof) × Proves signature lemmas goal raw proof)
+AnswersGoal signature lemmas goal (Unexplored name) =
+    (name ≡ goal.name) × (¬ IsAnswered goal) × (IsGroundGoal goal → ¬ CongruenceEntails goal)
 
 -- one block for each goal, in order, and each answers its goal
 abbrev pub AnswersAll : SignatureData → Lemmas → List GoalData → List Block → Type 0

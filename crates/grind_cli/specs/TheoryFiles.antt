@@ -1,5 +1,5 @@
 -- Which theory a file is, or why it is none.
-use Rattle.std.specs.Prelude.{◌≡◌, ℕ, List}
+use Rattle.std.specs.Prelude.{ℕ, List}
 use Rattle.grind_tokens.specs.declared.tokens.Token.{Token}
 use Rattle.grind_tokens.specs.declared.tokens.LexRefusal.{LexRefusal}
 use Rattle.grind_tokens.specs.declared.tokens.LexRefusal.TheVariants as lexical
@@ -11,6 +11,7 @@ use Rattle.grind_grammar.specs.Files as files
 use Rattle.grind_theory.specs.declared.theory.Theory.{Theory}
 use Rattle.grind_theory.specs.States.{opening_state}
 use Rattle.grind_theory.specs.Theories.{IsTheoryOf, RefusedAt}
+use Rattle.grind_theory.specs.Laws.{AreSameTheories}
 use Rattle.grind_cli.specs.declared.reader.Refusal.{Refusal}
 use Rattle.grind_cli.specs.declared.reader.Refusal.TheVariants as refusals
 
@@ -44,9 +45,9 @@ IsRefusedFor bytes (refusals.Bad decl fault) =
     (tokens : List Token) × (declarations : List Declaration) × Declares bytes tokens declarations
     × RefusedAt opening_state declarations decl fault
 
--- at most one theory stands for given bytes
+-- at most one theory stands for given bytes, but for the room that the schemes of its theorems have
 abbrev pub OneTheoryOf : Type 0
-OneTheoryOf = (bytes : List ℕ) (a b : Theory) → TheoryOf bytes a → TheoryOf bytes b → a ≡ b
+OneTheoryOf = (bytes : List ℕ) (a b : Theory) → TheoryOf bytes a → TheoryOf bytes b → AreSameTheories a b
 
 -- bytes that are refused are no theory
 abbrev pub RefusedHaveNone : Type 0

@@ -5,12 +5,13 @@ ghost use Rattle.grind_cli.specs.Reading.{AreTokens, AreDeclarations, IsRefusal,
 ghost use Rattle.grind_cli.specs.TheoryFiles.{TheoryOf, OneTheoryOf, RefusedHaveNone, OneRefusalOf};
 
 use grind_grammar::Decl;
-use grind_grammar::laws::one_parse;
+use grind_grammar::laws::{names_are_words, one_parse};
 use grind_outside::List;
 use grind_syntax::parse::{SyntaxRefusal, parse};
-use grind_theory::elaborate::{elaborate, one_elaboration};
+use grind_theory::elaborate::elaborate;
+use grind_theory::laws::{one_refusal, one_theory};
 use grind_theory::theory::{Fault, Theory, TheoryRefusal};
-use grind_tokens::tokens::{LexRefusal, Token, one_reading, tokens};
+use grind_tokens::tokens::{LexRefusal, Token, names_are_plain, one_reading, tokens};
 use std::alloc::Global;
 
 /// Why the bytes are no theory. Offsets are counted from 0, declarations from 1.
@@ -108,6 +109,8 @@ fn theory_of_decls(
     ensures declared { IfOk result (λ theory. AreDeclared theory.signature theory.goals) }
     ensures refused { IfErr result (IsRefusal bytes.now) }
 {
+    names_are_plain();
+    names_are_words();
     match elaborate(alloc, bytes, decls) {
         Ok(theory) => Ok(theory),
         Err(refusal) => Err(of_declarations(refusal)),
@@ -150,8 +153,8 @@ fn of_declarations(refusal: TheoryRefusal) -> ReaderRefusal
     }
 }
 
-/// At most one theory stands for given bytes; bytes that are refused are no theory; and they are refused for one thing
-/// at most.
+/// At most one theory stands for given bytes, but for the room that the schemes of its theorems have; bytes that are
+/// refused are no theory; and they are refused for one thing at most.
 pub fn one_theory_of()
     ensures theory { OneTheoryOf }
     ensures none { RefusedHaveNone }
@@ -159,5 +162,6 @@ pub fn one_theory_of()
 {
     one_reading();
     one_parse();
-    one_elaboration();
+    one_theory();
+    one_refusal();
 }

@@ -1,8 +1,13 @@
-use Rattle.grind_cli.proofs.ReaderLemmas.{refused_declarations}
+use Rattle.grind_cli.proofs.ReaderLemmas.{are_kept, refused_declarations}
 use Rattle.grind_cli.proofs.reader.theory_of_decls.Goals as goal
 
+pub elaborate-requires : goal.elaborate-requires
+elaborate-requires c =
+    are_kept c.names_are_plain.ensures c.names_are_words.ensures c.args.bytes.now c.args.lexed.now c.args.decls.now c.requires.tokens
+    c.requires.decls
+
+pub returns-in-Ok-clause-ok : goal.returns-in-Ok-clause-ok
+returns-in-Ok-clause-ok c = ?
+
 pub returns-in-Err-clause-refused : goal.returns-in-Err-clause-refused
-returns-in-Err-clause-refused c =
-    let ds = c.requires.decls.0 in
-    refused_declarations c.args.bytes.now c.args.lexed.now ds c.in-Err.refusal c.of_declarations.result c.requires.tokens.0 c.requires.decls.1
-    (c.in-Err.ensures.refused ds c.requires.decls.2) c.of_declarations.ensures
+returns-in-Err-clause-refused c = ?
