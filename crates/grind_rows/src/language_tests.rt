@@ -6,143 +6,154 @@ use std::process::Abort;
 use std::test::Fail;
 use std::thread::Threads;
 
-/// A text, and what is said of it after `grind: t.gr: `.
-struct Case {
-    text: &'static str,
-    words: &'static str,
-}
-
-const fn case(text: &'static str, words: &'static str) -> Case {
-    Case { text, words }
-}
-
-/// Each file is the smallest of its kind.
-const REFUSED: [Case; 53] = [
+/// Texts, and what is said of each after `grind: t.gr: `. Each file is the smallest of its kind.
+const REFUSED: [(&str, &str); 53] = [
     // tokens
-    case("sort S. @", "bad byte at offset 8"),
-    case("\u{feff}sort S.", "bad byte at offset 0"),
-    case("sort S. !", "bad byte at offset 8"),
-    case("sort S. |", "bad byte at offset 8"),
-    case("sort S. /", "bad byte at offset 8"),
-    case("sort S. \u{a0}", "bad byte at offset 8"),
-    case(
+    ("sort S. @", "bad byte at offset 8"),
+    ("\u{feff}sort S.", "bad byte at offset 0"),
+    ("sort S. !", "bad byte at offset 8"),
+    ("sort S. |", "bad byte at offset 8"),
+    ("sort S. /", "bad byte at offset 8"),
+    ("sort S. \u{a0}", "bad byte at offset 8"),
+    (
         "goal t (x: Int): x = 170141183460469231731687303715884105728 |- false.",
         "number too large at offset 21",
     ),
     // a declaration and its end
-    case("sort S", "declaration 1: syntax"),
-    case("sort S. sort T", "declaration 2: syntax"),
-    case(".", "declaration 1: syntax"),
-    case("sort.", "declaration 1: syntax"),
-    case("sort goal.", "declaration 1: syntax"),
-    case("sort Int.", "declaration 1: syntax"),
-    case("sort 1.", "declaration 1: syntax"),
-    case("fun f.", "declaration 1: syntax"),
-    case("fun f(): Int.", "declaration 1: syntax"),
-    case("fun f(Int: Int.", "declaration 1: syntax"),
-    case("limit splits.", "declaration 1: syntax"),
-    case("limit splits -1.", "declaration 1: syntax"),
-    case("goal t: true.", "declaration 1: syntax"),
-    case("goal t (): |- true.", "declaration 1: syntax"),
-    case("goal t (x): |- true.", "declaration 1: syntax"),
-    case("goal t: true; |- true.", "declaration 1: syntax"),
-    case("theorem t [pattern]: true.", "declaration 1: syntax"),
-    case("theorem t [= _ _]: true.", "declaration 1: syntax"),
+    ("sort S", "declaration 1: syntax"),
+    ("sort S. sort T", "declaration 2: syntax"),
+    (".", "declaration 1: syntax"),
+    ("sort.", "declaration 1: syntax"),
+    ("sort goal.", "declaration 1: syntax"),
+    ("sort Int.", "declaration 1: syntax"),
+    ("sort 1.", "declaration 1: syntax"),
+    ("fun f.", "declaration 1: syntax"),
+    ("fun f(): Int.", "declaration 1: syntax"),
+    ("fun f(Int: Int.", "declaration 1: syntax"),
+    ("limit splits.", "declaration 1: syntax"),
+    ("limit splits -1.", "declaration 1: syntax"),
+    ("goal t: true.", "declaration 1: syntax"),
+    ("goal t (): |- true.", "declaration 1: syntax"),
+    ("goal t (x): |- true.", "declaration 1: syntax"),
+    ("goal t: true; |- true.", "declaration 1: syntax"),
+    ("theorem t [pattern]: true.", "declaration 1: syntax"),
+    ("theorem t [= _ _]: true.", "declaration 1: syntax"),
     // formulas and terms
-    case(
+    (
         "sort S. fun f(S): S. goal g (a: S): |- f(a) = f(",
         "declaration 3: syntax",
     ),
-    case(
+    (
         "sort S. fun a: S. goal t: a = a = a |- true.",
         "declaration 3: syntax",
     ),
-    case("goal t: |- true <-> true <-> true.", "declaration 1: syntax"),
-    case("goal t (x: Int): |- 0 < x < 1.", "declaration 1: syntax"),
-    case("goal t: |- ~.", "declaration 1: syntax"),
-    case("goal t: |- (true.", "declaration 1: syntax"),
-    case("goal t: |- true).", "declaration 1: syntax"),
-    case("goal t (x: Int): |- x() = x.", "declaration 1: syntax"),
+    (
+        "goal t: |- true <-> true <-> true.",
+        "declaration 1: syntax",
+    ),
+    ("goal t (x: Int): |- 0 < x < 1.", "declaration 1: syntax"),
+    ("goal t: |- ~.", "declaration 1: syntax"),
+    ("goal t: |- (true.", "declaration 1: syntax"),
+    ("goal t: |- true).", "declaration 1: syntax"),
+    ("goal t (x: Int): |- x() = x.", "declaration 1: syntax"),
     // names
-    case("sort S. sort S.", "declaration 2: duplicate name"),
-    case("sort S. fun S: S.", "declaration 2: duplicate name"),
-    case("fun f: Int. goal f: |- true.", "declaration 2: duplicate name"),
-    case("goal t (x: Int, x: Int): |- true.", "declaration 1: duplicate name"),
-    case(
+    ("sort S. sort S.", "declaration 2: duplicate name"),
+    ("sort S. fun S: S.", "declaration 2: duplicate name"),
+    (
+        "fun f: Int. goal f: |- true.",
+        "declaration 2: duplicate name",
+    ),
+    (
+        "goal t (x: Int, x: Int): |- true.",
+        "declaration 1: duplicate name",
+    ),
+    (
         "fun x: Int. goal t (x: Int): |- true.",
         "declaration 2: duplicate name",
     ),
-    case(
+    (
         "limit splits 1. limit splits 1.",
         "declaration 2: duplicate name",
     ),
-    case("fun f(T): Int.", "declaration 1: unknown name"),
-    case("limit depth 1.", "declaration 1: unknown name"),
-    case("goal t: |- p.", "declaration 1: unknown name"),
-    case("goal t (x: Int): |- t = x.", "declaration 1: unknown name"),
+    ("fun f(T): Int.", "declaration 1: unknown name"),
+    ("limit depth 1.", "declaration 1: unknown name"),
+    ("goal t: |- p.", "declaration 1: unknown name"),
+    ("goal t (x: Int): |- t = x.", "declaration 1: unknown name"),
     // numbers of arguments and sorts
-    case(
+    (
         "sort S. fun f(S): S. goal t (a: S): |- f(a, a) = a.",
         "declaration 3: wrong number of arguments",
     ),
-    case(
+    (
         "goal t (x: Int): |- x(x) = x.",
         "declaration 1: wrong number of arguments",
     ),
-    case("sort S. fun p(Prop): S.", "declaration 2: wrong sort"),
-    case("goal t (x: Int): |- x.", "declaration 1: wrong sort"),
-    case("sort S. goal t (a: S): |- a = 1.", "declaration 2: wrong sort"),
-    case("sort S. goal t (a: S): |- a <= a.", "declaration 2: wrong sort"),
+    ("sort S. fun p(Prop): S.", "declaration 2: wrong sort"),
+    ("goal t (x: Int): |- x.", "declaration 1: wrong sort"),
+    (
+        "sort S. goal t (a: S): |- a = 1.",
+        "declaration 2: wrong sort",
+    ),
+    (
+        "sort S. goal t (a: S): |- a <= a.",
+        "declaration 2: wrong sort",
+    ),
     // patterns and sizes
-    case("theorem t (x: Int) [=]: x = x.", "declaration 1: no pattern"),
-    case("theorem t [=]: true.", "declaration 1: no pattern"),
-    case("limit splits 13.", "declaration 1: too large"),
-    case(
+    (
+        "theorem t (x: Int) [=]: x = x.",
+        "declaration 1: no pattern",
+    ),
+    ("theorem t [=]: true.", "declaration 1: no pattern"),
+    ("limit splits 13.", "declaration 1: too large"),
+    (
         "fun w(Int, Int, Int, Int, Int, Int, Int, Int, Int, Int, Int, Int, Int, Int, Int, Int): Int. theorem t (a b c d e f g h i j k l m n o p q: Int) [pattern w(a, b, c, d, e, f, g, h, i, j, k, l, m, n, o, p), w(b, c, d, e, f, g, h, i, j, k, l, m, n, o, p, q)]: true.",
         "declaration 2: too large",
     ),
 ];
 
 /// In each declaration two faults stand, or the second declaration has another: the first of them is named.
-const FIRST_OF_TWO: [Case; 17] = [
-    case("sort S. sort S. @", "bad byte at offset 16"),
-    case("sort S. sort S. sort", "declaration 3: syntax"),
-    case("sort S. sort S. fun f(T): S.", "declaration 2: duplicate name"),
-    case("goal t: |- p(1. sort S. sort S.", "declaration 1: syntax"),
-    case(
+const FIRST_OF_TWO: [(&str, &str); 17] = [
+    ("sort S. sort S. @", "bad byte at offset 16"),
+    ("sort S. sort S. sort", "declaration 3: syntax"),
+    (
+        "sort S. sort S. fun f(T): S.",
+        "declaration 2: duplicate name",
+    ),
+    ("goal t: |- p(1. sort S. sort S.", "declaration 1: syntax"),
+    (
         "sort S. goal S (x: T): |- true.",
         "declaration 2: duplicate name",
     ),
-    case(
+    (
         "fun f(Int): Int. goal t (x: T): |- f(x, x) = x.",
         "declaration 2: unknown name",
     ),
-    case(
+    (
         "fun f(Int): Int. goal t (x: Int): |- f(y, x) = x.",
         "declaration 2: unknown name",
     ),
-    case(
+    (
         "fun f(Int): Int. goal t: true = 1 |- f(1, 1) = 1.",
         "declaration 2: wrong number of arguments",
     ),
-    case("fun p(Prop, T): Int.", "declaration 1: unknown name"),
-    case("theorem t (x: Prop): x.", "declaration 1: wrong sort"),
-    case("theorem t (x: Int): x.", "declaration 1: wrong sort"),
-    case("theorem t (x: Int): x = y.", "declaration 1: unknown name"),
-    case(
+    ("fun p(Prop, T): Int.", "declaration 1: unknown name"),
+    ("theorem t (x: Prop): x.", "declaration 1: wrong sort"),
+    ("theorem t (x: Int): x.", "declaration 1: wrong sort"),
+    ("theorem t (x: Int): x = y.", "declaration 1: unknown name"),
+    (
         "theorem t (x: Int) [pattern y]: x = x.",
         "declaration 1: unknown name",
     ),
-    case(
+    (
         "fun p: Prop. theorem t (x: Int) [pattern p(x)]: x = x.",
         "declaration 2: wrong number of arguments",
     ),
-    case(
+    (
         "limit splits 1. limit splits 13.",
         "declaration 2: duplicate name",
     ),
-    case("limit depth 100000.", "declaration 1: unknown name"),
-    case(
+    ("limit depth 100000.", "declaration 1: unknown name"),
+    (
         "fun f(Prop, Prop, Prop, Prop, Prop, Prop, Prop, Prop, Prop, Prop, Prop, Prop, Prop, Prop, Prop, Prop, Prop): Int.",
         "declaration 1: wrong sort",
     ),
@@ -169,11 +180,11 @@ const READ: [&str; 15] = [
 
 #[test]
 fn files_with_a_fault(rt: HostRuntime) -> Result<(), Fail> {
-    for case in &REFUSED {
-        refuses(&rt, case.text.as_bytes(), case.words)?;
+    for (text, words) in REFUSED {
+        refuses(&rt, text.as_bytes(), words)?;
     }
-    for case in &FIRST_OF_TWO {
-        refuses(&rt, case.text.as_bytes(), case.words)?;
+    for (text, words) in FIRST_OF_TWO {
+        refuses(&rt, text.as_bytes(), words)?;
     }
     refuses(&rt, b"sort S. \xc3", "bad byte at offset 8")?;
     refuses(&rt, b"-- \xc3(\n", "bad byte at offset 3")
@@ -188,13 +199,7 @@ fn files_of_every_form(rt: HostRuntime) -> Result<(), Fail> {
 }
 
 /// The first text, then the piece so many times, then the last.
-fn built(
-    alloc: Global,
-    first: &str,
-    piece: &str,
-    count: u32,
-    last: &str,
-) -> Result<Vec<u8>, Fail> {
+fn built(alloc: Global, first: &str, piece: &str, count: u32, last: &str) -> Result<Vec<u8>, Fail> {
     let mut text = Vec::new(alloc);
     text.extend_from_slice(first.as_bytes())?;
     for _ in 0..count {
@@ -213,47 +218,79 @@ struct Edge {
     words: &'static str,
 }
 
-const fn edge(
-    first: &'static str,
-    piece: &'static str,
-    last: &'static str,
-    most: u32,
-    words: &'static str,
-) -> Edge {
-    Edge {
-        first,
-        piece,
-        last,
-        most,
-        words,
-    }
-}
-
 const DEEP: &str = "declaration 1: nested too deep";
 
 const EDGES: [Edge; 10] = [
-    edge("goal t: |- ", "~", "true.", 199, DEEP),
-    edge("goal t: |- 0 = ", "-", "1.", 198, DEEP),
-    edge("goal t: |- ", "true -> ", "true.", 199, DEEP),
-    edge("goal t: |- ", "true /\\ ", "true.", 199, DEEP),
-    edge("goal t: |- 0 = 0", " + 0", ".", 198, DEEP),
-    edge("fun f(", "Int, ", "Int): Int.", 15, "declaration 1: too large"),
-    edge(
-        "fun k(Int): Int. theorem t (",
-        "x, ",
-        "y: Int) [=]: k(y) = y.",
-        0,
-        "declaration 2: syntax",
-    ),
-    edge("sort a", "b", ".", 254, "name too long at offset 5"),
-    edge("sort ", "\u{e9}", ".", 127, "name too long at offset 5"),
-    edge(
-        "fun p: Prop. theorem t: p",
-        " /\\ p",
-        ".",
-        127,
-        "declaration 2: too large",
-    ),
+    Edge {
+        first: "goal t: |- ",
+        piece: "~",
+        last: "true.",
+        most: 199,
+        words: DEEP,
+    },
+    Edge {
+        first: "goal t: |- 0 = ",
+        piece: "- ",
+        last: "1.",
+        most: 198,
+        words: DEEP,
+    },
+    Edge {
+        first: "goal t: |- ",
+        piece: "true -> ",
+        last: "true.",
+        most: 199,
+        words: DEEP,
+    },
+    Edge {
+        first: "goal t: |- ",
+        piece: "true /\\ ",
+        last: "true.",
+        most: 199,
+        words: DEEP,
+    },
+    Edge {
+        first: "goal t: |- 0 = 0",
+        piece: " + 0",
+        last: ".",
+        most: 198,
+        words: DEEP,
+    },
+    Edge {
+        first: "fun f(",
+        piece: "Int, ",
+        last: "Int): Int.",
+        most: 15,
+        words: "declaration 1: too large",
+    },
+    Edge {
+        first: "fun k(Int): Int. theorem t (",
+        piece: "x, ",
+        last: "y: Int) [=]: k(y) = y.",
+        most: 0,
+        words: "declaration 2: syntax",
+    },
+    Edge {
+        first: "sort a",
+        piece: "b",
+        last: ".",
+        most: 254,
+        words: "name too long at offset 5",
+    },
+    Edge {
+        first: "sort ",
+        piece: "\u{e9}",
+        last: ".",
+        most: 127,
+        words: "name too long at offset 5",
+    },
+    Edge {
+        first: "fun p: Prop. theorem t: p",
+        piece: " /\\ p",
+        last: ".",
+        most: 127,
+        words: "declaration 2: too large",
+    },
 ];
 
 #[test]
@@ -292,12 +329,11 @@ fn open_parentheses(rt: HostRuntime) -> Result<(), Fail> {
 fn wide(alloc: Global, count: u32, negated: bool) -> Result<Vec<u8>, Fail> {
     let mut text = Vec::new(alloc);
     text.extend_from_slice(b"goal t: 1 = 1")?;
-    for i in 2..count {
+    for i in 2..count + 1 {
         let piece = format!(in alloc; " ; {i} = {i}")?;
         text.extend_from_slice(piece.as_bytes())?;
     }
-    let sign = if negated { "~ " } else { "" };
-    let last = format!(in alloc; " |- {sign}{count} = {count}.")?;
+    let last = if negated { " |- ~ 1 = 1." } else { " |- 1 = 1." };
     text.extend_from_slice(last.as_bytes())?;
     Ok(text)
 }
