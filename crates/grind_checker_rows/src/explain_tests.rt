@@ -19,20 +19,20 @@ goal t (a: S): f(f(f(a))) = a ; f(f(f(f(f(a))))) = a |- f(a) = a.";
 
 /// A proof, and the line that an explanation answered.
 #[derive(Drop)]
-struct Explained {
+struct Explanation {
     proof: Proof,
     number: u32,
 }
 
 /// The explanation of the equality of two nodes, behind the lines of the equations that the goal gives. None where these
 /// do not make them equal.
-fn explained(
+fn explanation_of(
     alloc: Global,
     lemmas: &Lemmas,
     goal: &Goal,
     a: NodeId,
     b: NodeId,
-) -> Result<Option<Explained>, Memory>
+) -> Result<Option<Explanation>, Memory>
     ensures { IfOk result (λ answer. IfSome answer (λ it. HasTerms goal.now it.proof)) }
 {
     let count = goal.terms().len();
@@ -49,7 +49,7 @@ fn explained(
         return Ok(None);
     }
     let number = explain(alloc, &closure, &whys, lemmas, goal, &mut proof, 0, a, b)?;
-    Ok(Some(Explained { proof, number }))
+    Ok(Some(Explanation { proof, number }))
 }
 
 /// Whether the line of that number is the last of the proof, and claims in the root that the two nodes are equal.
@@ -82,9 +82,9 @@ fn explains(
     a: NodeId,
     b: NodeId,
 ) -> Result<(), Memory> {
-    let found = explained(rt.alloc(), lemmas, goal, a, b)?;
+    let found = explanation_of(rt.alloc(), lemmas, goal, a, b)?;
     assert!(rt; found.is_some());
-    let Explained { proof, number } = found.unwrap();
+    let Explanation { proof, number } = found.unwrap();
     assert!(rt; ends_with(&proof, number, a, b));
     assert!(rt; are_typed(rt.alloc(), lemmas, goal, &proof)?);
     Ok(())
