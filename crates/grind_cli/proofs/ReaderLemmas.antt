@@ -6,21 +6,21 @@ use Rattle.std.proofs.lemmas.List.Elements.{All-head, All-tail}
 use Rattle.grind_tokens.specs.declared.tokens.Token.{Token}
 use Rattle.grind_tokens.specs.declared.tokens.TokenKind.{TokenKind}
 use Rattle.grind_tokens.specs.declared.tokens.TokenKind.TheVariants as kinds
-use Rattle.grind_tokens.specs.Tokens.{TokensOf, IsName, IsSpelled, IsPiece, IsPlain, NamesArePlain}
+use Rattle.grind_tokens.specs.Tokens.{IsName, IsSpelled, IsPiece, IsPlain, NamesArePlain}
 use Rattle.grind_grammar.specs.declared.syntax.Decl.{Decl}
-use Rattle.grind_grammar.specs.Lexemes.{Lexeme, Word, Number, Symbol, lexeme, lexeme_between, lexemes}
+use Rattle.grind_grammar.specs.Lexemes.{Word, lexeme, lexeme_between, lexemes}
 use Rattle.grind_grammar.specs.Terms.{Declaration, Sort, Fun, Theorem, Goal, Limit}
-use Rattle.grind_grammar.specs.Files.{DeclarationsOf}
-use Rattle.grind_grammar.specs.Keeps.{KeepsDecls}
 use Rattle.grind_grammar.specs.Laws.{declared_names, NamesAreWords}
 use Rattle.grind_schemes.specs.Labels.{IsLabel}
 use Rattle.grind_theory.specs.Kept.{HasLabels, AreKept}
-use Rattle.grind_theory.specs.Building.{AreRefused}
+use Rattle.grind_theory.specs.Building.{IsTheoryRead, AreRefused}
 use Rattle.grind_theory.specs.States.{bound_names}
 use Rattle.grind_theory.specs.declared.theory.Fault.{Fault}
+use Rattle.grind_theory.specs.declared.theory.Theory.{Theory}
 use Rattle.grind_theory.specs.declared.theory.TheoryRefusal.{TheoryRefusal}
 use Rattle.grind_theory.specs.declared.theory.TheoryRefusal.TheVariants as declared
 use Rattle.grind_cli.specs.declared.reader.ReaderRefusal.{ReaderRefusal}
+use Rattle.grind_cli.specs.TheoryFiles.{TheoryOf}
 use Rattle.grind_cli.specs.Reading.{IsRefusal, IsOfDeclarations, AreTokens, AreDeclarations}
 
 -- members of lists
@@ -80,9 +80,18 @@ all_have_labels (d ∷ ds) labels = (labels d (first_member d ds), all_have_labe
 -- the code keeps declarations whose names are labels
 pub are_kept : NamesArePlain → NamesAreWords → (bytes : List ℕ) (tokens : List Token) (kept : List Decl) → AreTokens bytes tokens →
     AreDeclarations bytes tokens kept → AreKept bytes kept
-are_kept plain words bytes tokens kept of (ds, declares, keeps) =
-    (ds, keeps, all_have_labels ds (λ d among. has_labels d (λ name has. plain_is_label name (plain name
-    (word_is_name bytes tokens name of.1 (words (lexemes bytes tokens) ds d name declares among has))))))
+are_kept plain words bytes tokens kept of (ds, declares, keeps) = (
+  ds,
+  keeps,
+  all_have_labels ds (λ d among. has_labels d (λ name has. plain_is_label name (plain name
+      (word_is_name bytes tokens name of.1 (words (lexemes bytes tokens) ds d name declares among has))))),
+)
+
+-- the theory of the declarations is that of the bytes
+pub theory_read : (bytes : List ℕ) (tokens : List Token) (kept : List Decl) (theory : Theory) → AreTokens bytes tokens →
+    AreDeclarations bytes tokens kept → IsTheoryRead bytes kept theory → TheoryOf bytes theory
+theory_read bytes tokens kept theory of (ds, declares, keeps) read =
+    (tokens, ds, record { tokens_of = of.0; declarations_of = declares }, read ds keeps)
 
 -- declarations that are refused make the bytes refused
 pub refused_declarations : {A : Type 0} (bytes : List ℕ) (tokens : List Token) (kept : List Decl) (answer : Result A TheoryRefusal) (refusal : TheoryRefusal)

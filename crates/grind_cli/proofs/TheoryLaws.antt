@@ -1,27 +1,19 @@
 -- What bytes are: one theory, or refused for one thing.
-use Rattle.std.proofs.Common.{◌≡◌, ℕ, List, refl, ap, subst, sym, ◌∙◌}
+use Rattle.std.proofs.Common.{◌≡◌, ℕ, List, ap, subst, ◌∙◌}
 use Rattle.grind_tokens.specs.declared.tokens.Token.{Token}
-use Rattle.grind_tokens.specs.declared.tokens.LexRefusal.{LexRefusal}
 use Rattle.grind_tokens.specs.declared.tokens.LexRefusal.TheVariants as lexical
-use Rattle.grind_tokens.specs.Tokens.{TokensOf, Breaks, OneReading, NotBoth, OneBreak}
+use Rattle.grind_tokens.specs.Tokens.{OneReading, NotBoth, OneBreak}
 use Rattle.grind_grammar.specs.Lexemes.{lexemes}
 use Rattle.grind_grammar.specs.Terms.{Declaration}
 use Rattle.grind_grammar.specs.Files.{Fault, Syntax, TooDeep, DeclarationsOf}
 use Rattle.grind_grammar.specs.Files as files
 use Rattle.grind_grammar.specs.Laws as grammar
-use Rattle.grind_theory.specs.declared.theory.Theory.{Theory}
 use Rattle.grind_theory.specs.declared.theory.Fault.{Fault as TheFault}
-use Rattle.grind_theory.specs.declared.theory.TheoryRefusal.{TheoryRefusal}
-use Rattle.grind_theory.specs.declared.theory.TheoryRefusal.TheVariants as declared
 use Rattle.grind_theory.specs.States.{opening_state}
 use Rattle.grind_theory.specs.Theories.{IsTheoryOf, RefusedAt}
 use Rattle.grind_theory.specs.Laws as laws
-use Rattle.grind_cli.specs.declared.reader.Refusal.{Refusal}
 use Rattle.grind_cli.specs.declared.reader.Refusal.TheVariants as refusals
-use Rattle.grind_cli.specs.declared.reader.ReaderRefusal.{ReaderRefusal}
-use Rattle.grind_cli.specs.declared.reader.ReaderRefusal.TheVariants.{Refused, Memory}
-use Rattle.grind_cli.specs.Reading.{IsRefusal, IsOfDeclarations}
-use Rattle.grind_cli.specs.TheoryFiles.{Declares, TheoryOf, HasNoTheory, IsUngrammatical, IsRefusedFor, OneTheoryOf, RefusedHaveNone, OneRefusalOf}
+use Rattle.grind_cli.specs.TheoryFiles.{Declares, IsUngrammatical, OneTheoryOf, RefusedHaveNone, OneRefusalOf}
 
 -- equal refusals of the tokens have one place
 same_bad_byte : (m n : ℕ) → lexical.BadByte m ≡ lexical.BadByte n → refusals.BadByte m ≡ refusals.BadByte n

@@ -1,7 +1,6 @@
 -- Which theory a file is, or why it is none.
-use Rattle.std.specs.Prelude.{ℕ, List}
+use Rattle.std.specs.Prelude.{◌≡◌, ℕ, List}
 use Rattle.grind_tokens.specs.declared.tokens.Token.{Token}
-use Rattle.grind_tokens.specs.declared.tokens.LexRefusal.{LexRefusal}
 use Rattle.grind_tokens.specs.declared.tokens.LexRefusal.TheVariants as lexical
 use Rattle.grind_tokens.specs.Tokens.{TokensOf, Breaks}
 use Rattle.grind_grammar.specs.Lexemes.{lexemes}
