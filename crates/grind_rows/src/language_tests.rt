@@ -7,7 +7,7 @@ use std::test::Fail;
 use std::thread::Threads;
 
 /// Texts, and what is said of each after `grind: t.gr: `. Each file is the smallest of its kind.
-const REFUSED: [(&str, &str); 53] = [
+const REFUSED: [(&str, &str); 54] = [
     // tokens
     ("sort S. @", "bad byte at offset 8"),
     ("\u{feff}sort S.", "bad byte at offset 0"),
@@ -104,6 +104,10 @@ const REFUSED: [(&str, &str); 53] = [
         "declaration 1: no pattern",
     ),
     ("theorem t [=]: true.", "declaration 1: no pattern"),
+    (
+        "fun k(Int): Int. theorem t (x: Int) [pattern k(x), k(7)]: x = 0.",
+        "declaration 2: no pattern",
+    ),
     ("limit splits 13.", "declaration 1: too large"),
     (
         "fun w(Int, Int, Int, Int, Int, Int, Int, Int, Int, Int, Int, Int, Int, Int, Int, Int): Int. theorem t (a b c d e f g h i j k l m n o p q: Int) [pattern w(a, b, c, d, e, f, g, h, i, j, k, l, m, n, o, p), w(b, c, d, e, f, g, h, i, j, k, l, m, n, o, p, q)]: true.",
@@ -170,7 +174,7 @@ const READ: [&str; 15] = [
     "fun k(Int): Int. theorem t (x: Int) [=_]: x = k(x).",
     "fun k(Int): Int. theorem t (x: Int) [->]: k(x) = 0 -> x = 0.",
     "fun k(Int): Int. theorem t (x: Int) [<-]: x = 0 -> k(x) = 0.",
-    "fun k(Int): Int. theorem t (x y: Int) [pattern k(x), k(y)] [pattern k(k(x)), k(7), k(y)]: x = y.",
+    "fun h(Int, Int): Int. theorem t (x y: Int) [pattern h(x, 0), h(0, y)] [pattern h(h(x, 7), y)]: x = y.",
     "theorem t: true \\/ false.",
     "fun p: Prop. goal t (q: Prop): p /\\ q <-> ~ p -> q |- p \\/ q /\\ ~ ~ q.",
     "goal t (x y: Int): -x * - - y - 3 >= 2*x + 170141183460469231731687303715884105727 ; x != y |- x > y.",
@@ -333,7 +337,11 @@ fn wide(alloc: Global, count: u32, negated: bool) -> Result<Vec<u8>, Fail> {
         let piece = format!(in alloc; " ; {i} = {i}")?;
         text.extend_from_slice(piece.as_bytes())?;
     }
-    let last = if negated { " |- ~ 1 = 1." } else { " |- 1 = 1." };
+    let last = if negated {
+        " |- ~ 1 = 1."
+    } else {
+        " |- 1 = 1."
+    };
     text.extend_from_slice(last.as_bytes())?;
     Ok(text)
 }
