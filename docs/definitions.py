@@ -1,0 +1,110 @@
+#!/usr/bin/env python3
+"""Writes docs/DEFINITIONS.md from the comments above the definitions in specs/.
+
+Usage: docs/definitions.py
+
+The crates and their files stand in reading order below. A definition without a comment of its own has that of the
+definition before it.
+"""
+
+import os
+import re
+
+FILES = {
+    "grind_outside": ["NamedFiles", "Outside"],
+    "grind_lemmas": None,
+    "grind_term_graph": ["Terms", "Shape", "Placed"],
+    "grind_linear_forms": None,
+    "grind_classes": ["Classes"],
+    "grind_congruence": ["Derivable", "Congruence", "Edges", "Exact", "Asserted"],
+    "grind_schemes": ["Labels", "Goals", "Limits", "Schemes", "Theorems", "Instances", "Laws"],
+    "grind_proof_kernel": ["Claims", "Tables", "Rules", "Typing", "Judgement", "Laws"],
+    "grind_par_check": ["Judges"],
+    "grind_explain": ["Explained"],
+    "grind_case_split": ["Congruences", "Writing", "Building", "Given", "Laws"],
+    "grind_value_tables": ["Respects", "Overflows", "Truths", "Laws"],
+    "grind_tokens": ["Tokens"],
+    "grind_grammar": ["Lexemes", "Terms", "Names", "Grammar", "Parentheses", "Files", "Keeps", "Laws"],
+    "grind_syntax": ["Refusals"],
+    "grind_signature": ["Signatures"],
+    "grind_resolution": ["Scopes", "Sorting", "Resolved", "DeclaredSchemes", "Sizes", "Same", "Laws"],
+    "grind_patterns": ["Copies", "Patterns"],
+    "grind_theory": ["States", "Faults", "Theories", "Kept", "Building", "Laws"],
+    "grind_report": ["Blocks", "Report"],
+    "grind_cli": ["Commands", "TheoryFiles", "Reading", "Answers", "Endings", "Statuses", "Notes"],
+}
+
+HEAD = """# Definitions
+
+What a reader must believe, in reading order: each definition, one sentence, and its file. Files of
+`specs/` that are not listed here serve private contracts alone. `docs/definitions.py` writes this page.
+"""
+
+DEFINITION = re.compile(r"(?:(?:abbrev|unfoldable) )?pub (?:abbrev |data |record )?([A-Za-z_][\w\-]*)")
+GROUP = re.compile(r"(?:(?:abbrev|unfoldable) )?mutual|module")
+
+
+def sentence(words):
+    """The comment as a sentence; a production of the grammar stays as it is."""
+    text = " ".join(words).strip()
+    if not text:
+        return ""
+    if not re.match(r"^`|^[a-z]+ =|^[A-Z_]+ \{|^[\[{]", text):
+        text = text[0].upper() + text[1:]
+    return (text if text[-1] in ".?!" else text + ".").replace("|", "\\|")
+
+
+def definitions(path):
+    """What the file is about, and its definitions, each with its sentence."""
+    with open(path, encoding="utf-8") as file:
+        lines = file.read().split("\n")
+    head = []
+    while lines and lines[0].startswith("--"):
+        head.append(lines.pop(0)[2:].strip())
+    found, comment, last, group = [], [], "", False
+    for line in lines:
+        text = line.strip()
+        depth = len(line) - len(line.lstrip())
+        if not text:
+            comment = []
+            continue
+        if text.startswith("--"):
+            comment.append(text[2:].strip())
+            continue
+        if depth == 0:
+            group = bool(GROUP.match(text))
+            if group:
+                continue
+        name = DEFINITION.match(text)
+        if name and (depth == 0 or (depth == 2 and group)):
+            last = sentence(comment) or last
+            found.append((name.group(1), last))
+        comment = []
+    return " ".join(head), found
+
+
+def page(top):
+    """The whole page."""
+    parts = [HEAD]
+    for crate, files in FILES.items():
+        folder = os.path.join(top, "crates", crate, "specs")
+        if not os.path.isdir(folder):
+            continue
+        parts.append(f"## `{crate}`\n")
+        names = files or sorted(name[:-5] for name in os.listdir(folder) if name.endswith(".antt") and name != "Lib.antt")
+        for name in names:
+            head, found = definitions(os.path.join(folder, name + ".antt"))
+            rows = "\n".join(f"| `{word}` | {text} |" for word, text in found)
+            parts.append(f"`specs/{name}.antt`: {head}\n")
+            parts.append(f"| Definition | What it says |\n|---|---|\n{rows}\n")
+    return "\n".join(parts)
+
+
+def main():
+    docs = os.path.dirname(os.path.abspath(__file__))
+    with open(os.path.join(docs, "DEFINITIONS.md"), "w", encoding="utf-8") as file:
+        file.write(page(os.path.dirname(docs)))
+
+
+if __name__ == "__main__":
+    main()
