@@ -1,12 +1,13 @@
 -- A linear form divided by a number that divides its coefficients.
 use Rattle.std.specs.Prelude.{◌≡◌, List, All, map, ℤ, ◌*ℤ◌}
+use Rattle.grind_lemmas.specs.Division.{IsMultiple}
 use Rattle.grind_lemmas.specs.Rounding.{IsCeil}
 use Rattle.grind_linear_forms.specs.declared.form.Part.{Part}
 use Rattle.grind_linear_forms.specs.Forms.{FormData, part_of}
 
 -- the number divides the coefficient of the part
 abbrev pub Divides : ℤ → Part → Type 0
-Divides g part = (quotient : ℤ) × (part.coefficient ≡ g *ℤ quotient)
+Divides g part = IsMultiple part.coefficient g
 
 -- the number divides each coefficient
 abbrev pub DividesAll : ℤ → List Part → Type 0

@@ -5,11 +5,11 @@ use Rattle.grind_linear_forms.specs.declared.form.Part.{Part}
 use Rattle.grind_linear_forms.specs.Forms.{FormData, form_data, part_of, fit}
 
 -- x taken m times
-abbrev pub multiple : ℤ → ℤ → Option ℤ
+unfoldable pub multiple : ℤ → ℤ → Option ℤ
 multiple m x = fit (m *ℤ x)
 
 -- x taken m times and y taken k times: both products fit, and their sum does
-abbrev pub combination : ℤ → ℤ → ℤ → ℤ → Option ℤ
+unfoldable pub combination : ℤ → ℤ → ℤ → ℤ → Option ℤ
 combination m x k y = option_and_then (λ p. option_and_then (λ q. fit (p +ℤ q)) (multiple k y)) (multiple m x)
 
 -- a node with its coefficient before other parts; a coefficient of 0 is left out
