@@ -1,11 +1,13 @@
 -- The value of a cut, and that there is one.
-use Rattle.std.proofs.Common.{◌≡◌, ◌≢◌, ℕ, zero, suc, List, [], ◌∷◌, map, ℤ, pos, negsuc, ◌+ℤ◌, ◌*ℤ◌, ◌≤ℤ◌, ◌<ℤ◌, arith, sym, ap, ◌∙◌, refl}
+use Rattle.std.proofs.Common.{◌≡◌, ◌≢◌, ℕ, zero, suc, List, [], ◌∷◌, ◌++◌, length, map, ℤ, pos, negsuc, ◌+ℤ◌, ◌*ℤ◌, ◌≤ℤ◌, ◌<ℤ◌, arith, sym, ap, ◌∙◌, refl}
+use Rattle.std.proofs.lemmas.List.{append_assoc, append-nil, map-append}
+use Rattle.std.proofs.lemmas.List.Elements.{All-nil}
 use lib.IntN.{*ℤ-zero}
 use Rattle.grind_lemmas.specs.Products.{ProductsAssociate, ProductsDistribute, ProductsCancel}
 use Rattle.grind_lemmas.specs.Rounding.{IsCeil, CeilingsBound, OneCeiling}
 use Rattle.grind_linear_forms.specs.declared.form.Part.{Part}
 use Rattle.grind_linear_forms.specs.Forms.{FormData, form_data, part_of}
-use Rattle.grind_linear_forms.specs.Cuts.{times, IsCut}
+use Rattle.grind_linear_forms.specs.Cuts.{times, Divides, DividesAll, IsCut}
 use Rattle.grind_linear_forms.specs.Values.{parts_value, form_value}
 use Rattle.grind_linear_forms.proofs.Linear.{linear}
 
@@ -46,3 +48,23 @@ module _ (cancel : ProductsCancel) (g : ℤ) (nonzero : g ≢ pos 0) where
 
 pub positive-nonzero : (g : ℤ) → pos 0 <ℤ g → g ≢ pos 0
 positive-nonzero g positive e = omega (arith, linear)
+
+-- ---- the steps of the loops
+pub divides_none : (g : ℤ) (parts : List Part) → length parts ≡ 0 → DividesAll g parts
+divides_none g [] e = All-nil (Divides g)
+divides_none g (part ∷ rest) e = absurd (omega arith)
+
+-- one more coefficient is divided
+pub divided_step : (g : ℤ) (whole done new rest xs : List Part) (x : Part) (quotient : ℤ) → rest ≡ x ∷ xs
+    → x.coefficient ≡ g *ℤ quotient → new ≡ done ++ part_of x.node quotient ∷ [] → times g done ++ rest ≡ whole
+    → times g new ++ xs ≡ whole
+divided_step g whole done new rest xs x quotient rest_is e new_is so_far =
+    let part : part_of x.node (g *ℤ quotient) ≡ x = ap (part_of x.node) (sym e) in
+    ap (λ (parts : List Part). times g parts ++ xs) new_is
+    ∙ ap (λ (parts : List Part). parts ++ xs) (map-append (λ (part : Part). part_of part.node (g *ℤ part.coefficient)) done (part_of x.node quotient ∷ []))
+    ∙ append_assoc (times g done) (part_of x.node (g *ℤ quotient) ∷ []) xs
+    ∙ ap (λ (part : Part). times g done ++ (part ∷ xs)) part ∙ ap (λ (parts : List Part). times g done ++ parts) (sym rest_is) ∙ so_far
+
+pub divided_end : (g : ℤ) (whole done rest : List Part) → length rest ≡ 0 → times g done ++ rest ≡ whole → whole ≡ times g done
+divided_end g whole done [] e so_far = sym so_far ∙ append-nil (times g done)
+divided_end g whole done (x ∷ rest) e so_far = absurd (omega arith)

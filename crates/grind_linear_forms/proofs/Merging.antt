@@ -1,5 +1,5 @@
 -- How multiples of parts are merged, clause by clause and step by step.
-use Rattle.std.proofs.Common.{◌≡◌, ℕ, zero, suc, ◌<◌, ◌≤◌, ltb, cond, Bool, true, false, List, [], ◌∷◌, ◌++◌, ℤ, pos, negsuc, Option, Some, None, arith, sym, ap, ◌∙◌, refl}
+use Rattle.std.proofs.Common.{◌≡◌, ℕ, zero, suc, ◌<◌, ◌≤◌, ltb, cond, Bool, true, false, List, [], ◌∷◌, ◌++◌, length, ℤ, pos, negsuc, Option, Some, None, Result, Ok, Err, IfOk, arith, sym, ap, ◌∙◌, refl}
 use Rattle.std.specs.Option.{option_map, IsSomeAnd}
 use Rattle.std.proofs.lemmas.Bool.{cond-true, cond-false, lt-ltb, le-ltb}
 use Rattle.std.proofs.lemmas.List.{append_assoc, append-nil}
@@ -125,6 +125,21 @@ module _ (m k : ℤ) (whole : Option (List Part)) (done rest others : List Part)
     merge_fails given e f =
         sym opened ∙ ap (behind done) is ∙ behind-fails done node c (merged m left k right) (sym e ∙ f)
 
+-- ---- the ends of the loops
+pub multiply_end : (m : ℤ) (done rest : List Part) → length rest ≡ 0 → behind done (multiplied m rest) ≡ Some done
+multiply_end m done [] e = ap (behind done) (multiplied-nil m) ∙ behind-done done
+multiply_end m done (x ∷ rest) e = absurd (omega arith)
+
+pub merge_end : (m k : ℤ) (done rest others : List Part) → length rest ≡ 0
+    → behind done (merged m rest k others) ≡ behind done (multiplied k others)
+merge_end m k done [] others e = ap (behind done) (merged-nil m k others)
+merge_end m k done (x ∷ rest) others e = absurd (omega arith)
+
+pub merge_rest : (m k : ℤ) (done rest others : List Part) → length others ≡ 0
+    → behind done (merged m rest k others) ≡ behind done (multiplied m rest)
+merge_rest m k done rest [] e = ap (behind done) (merged-left m k rest)
+merge_rest m k done rest (y ∷ others) e = absurd (omega arith)
+
 -- ---- forms
 pub both-some : (parts : Option (List Part)) (constant : Option ℤ) (form : FormData) → both parts constant ≡ Some form
     → (parts ≡ Some form.parts) × (constant ≡ Some form.constant)
@@ -133,3 +148,22 @@ both-some (Some parts) None form e = absurd (none-some form e)
 both-some (Some parts) (Some constant) form e =
     let is : form_data parts constant ≡ form = cc in
     (ap (λ (form : FormData). Some form.parts) is, ap (λ (form : FormData). Some form.constant) is)
+
+pub both-none : (parts : Option (List Part)) (constant : Option ℤ) → parts ≡ None → both parts constant ≡ None
+both-none None constant e = refl
+both-none (Some parts) constant e = absurd (none-some parts (sym e))
+
+pub both-none_either : (parts : Option (List Part)) (constant : Option ℤ) → constant ≡ None → both parts constant ≡ None
+both-none_either None constant e = refl
+both-none_either (Some parts) None e = refl
+both-none_either (Some parts) (Some constant) e = absurd (none-some constant (sym e))
+
+-- a form is made of its two parts
+pub both-made : (parts : Option (List Part)) (constant : Option ℤ) (some : List Part) (number : ℤ) → parts ≡ Some some
+    → constant ≡ Some number → both parts constant ≡ Some (form_data some number)
+both-made parts constant some number e f = rw (e, f)
+
+-- what follows from the value of an Ok
+pub on_ok : {A E : Type 0} → (r : Result A E) (P Q : A → Type 0) → ((a : A) → P a → Q a) → IfOk r P → IfOk r Q
+on_ok (Ok a) P Q f h = f a h
+on_ok (Err e) P Q f h = h

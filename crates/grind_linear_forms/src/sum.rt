@@ -25,7 +25,7 @@ pub fn add_scaled(
     ensures overflow { IsErrOf result FormRefusal.Overflow → scaled_sum a.now m b.now k ≡ None }
 {
     let parts = merge(alloc, m, a.parts(), k, b.parts())?;
-    let Some(constant) = combination_of(m, a.constant, k, b.constant) else {
+    let Some(constant) = combination_of(m, a.constant(), k, b.constant()) else {
         return Err(FormRefusal::Overflow);
     };
     Ok(Form { parts, constant })
@@ -41,7 +41,7 @@ pub fn scale(alloc: Global, a: &Form, m: i128) -> Result<Form, FormRefusal>
     ensures overflow { IsErrOf result FormRefusal.Overflow → scaled_form m a.now ≡ None }
 {
     let parts = multiply(List::new(alloc), m, a.parts())?;
-    let Some(constant) = multiple_of(m, a.constant) else {
+    let Some(constant) = multiple_of(m, a.constant()) else {
         return Err(FormRefusal::Overflow);
     };
     Ok(Form { parts, constant })
