@@ -1,10 +1,10 @@
 -- The value of a cut, and that there is one.
-use Rattle.std.proofs.Common.{◌≡◌, ◌≢◌, ℕ, zero, suc, List, [], ◌∷◌, ◌++◌, length, map, ℤ, pos, negsuc, ◌+ℤ◌, ◌*ℤ◌, ◌≤ℤ◌, ◌<ℤ◌, arith, sym, ap, ◌∙◌, refl}
+use Rattle.std.proofs.Common.{◌≡◌, ◌≢◌, ℕ, List, [], ◌∷◌, ◌++◌, length, ℤ, pos, ◌*ℤ◌, ◌≤ℤ◌, ◌<ℤ◌, arith, sym, ap, ◌∙◌, refl}
 use Rattle.std.proofs.lemmas.List.{append_assoc, append-nil, map-append}
 use Rattle.std.proofs.lemmas.List.Elements.{All-nil}
 use lib.IntN.{*ℤ-zero}
 use Rattle.grind_lemmas.specs.Products.{ProductsAssociate, ProductsDistribute, ProductsCancel}
-use Rattle.grind_lemmas.specs.Rounding.{IsCeil, CeilingsBound, OneCeiling}
+use Rattle.grind_lemmas.specs.Rounding.{CeilingsBound, OneCeiling}
 use Rattle.grind_linear_forms.specs.declared.form.Part.{Part}
 use Rattle.grind_linear_forms.specs.Forms.{FormData, form_data, part_of}
 use Rattle.grind_linear_forms.specs.Cuts.{times, Divides, DividesAll, IsCut}

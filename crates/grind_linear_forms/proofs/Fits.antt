@@ -1,5 +1,5 @@
 -- Numbers that fit in 128 bits.
-use Rattle.std.proofs.Common.{◌≡◌, ◌↔◌, ℕ, zero, suc, ◌-◌, ◌<◌, ◌^◌, Bool, true, false, cond, ltb, eqb, ℤ, pos, negsuc, ◌+ℤ◌, ◌*ℤ◌, ◌<ℤ◌, FitsSigned, Option, Some, None, SomeIff, IsTrue, nat_eq, arith, sym, ap, ◌∙◌, refl, subst}
+use Rattle.std.proofs.Common.{◌≡◌, ◌↔◌, ℕ, suc, ◌-◌, ◌^◌, Bool, true, false, cond, ltb, ℤ, pos, negsuc, ◌+ℤ◌, ◌*ℤ◌, FitsSigned, Option, Some, None, SomeIff, IsTrue, nat_eq, arith, sym, ap, ◌∙◌, refl}
 use Rattle.std.specs.Option.{option_and_then}
 use Rattle.std.specs.Int.{w128, cast_unsigned}
 use Rattle.std.proofs.lemmas.Bool.{cond-true, cond-false, lt-ltb, ltb-true, false_from_ne_true, eqb-true, eq-eqb}

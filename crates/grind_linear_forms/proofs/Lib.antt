@@ -5,3 +5,4 @@ pub mod Rising
 pub mod SumValues
 pub mod CutLemmas
 pub mod ReadingLemmas
+pub mod MarkLemmas

@@ -1,11 +1,11 @@
 -- How multiples of parts are merged, clause by clause and step by step.
-use Rattle.std.proofs.Common.{◌≡◌, ℕ, zero, suc, ◌<◌, ◌≤◌, ltb, cond, Bool, true, false, List, [], ◌∷◌, ◌++◌, length, ℤ, pos, negsuc, Option, Some, None, Result, Ok, Err, IfOk, arith, sym, ap, ◌∙◌, refl}
-use Rattle.std.specs.Option.{option_map, IsSomeAnd}
+use Rattle.std.proofs.Common.{◌≡◌, ℕ, zero, suc, ◌<◌, ◌≤◌, ltb, cond, List, [], ◌∷◌, ◌++◌, length, ℤ, pos, negsuc, Option, Some, None, Result, Ok, Err, IfOk, arith, sym, ap, ◌∙◌, refl}
+use Rattle.std.specs.Option.{IsSomeAnd}
 use Rattle.std.proofs.lemmas.Bool.{cond-true, cond-false, lt-ltb, le-ltb}
 use Rattle.std.proofs.lemmas.List.{append_assoc, append-nil}
 use Rattle.std.proofs.lemmas.Option.{none-some}
 use Rattle.grind_linear_forms.specs.declared.form.Part.{Part}
-use Rattle.grind_linear_forms.specs.Forms.{FormData, form_data, part_of}
+use Rattle.grind_linear_forms.specs.Forms.{FormData, form_data}
 use Rattle.grind_linear_forms.specs.Sums.{multiple, combination, in_front, front, multiplied, merged_from, merged, behind, both}
 
 -- ---- the clauses
@@ -34,8 +34,8 @@ merged-left m k (x ∷ xs) =
 
 merged-cons : (m k : ℤ) (x y : Part) (xs ys : List Part) → merged m (x ∷ xs) k (y ∷ ys)
     ≡ cond (ltb x.node y.node) (front x.node (multiple m x.coefficient) (merged m xs k (y ∷ ys)))
-        (cond (ltb y.node x.node) (front y.node (multiple k y.coefficient) (merged m (x ∷ xs) k ys))
-          (front x.node (combination m x.coefficient k y.coefficient) (merged m xs k ys)))
+    (cond (ltb y.node x.node) (front y.node (multiple k y.coefficient) (merged m (x ∷ xs) k ys))
+    (front x.node (combination m x.coefficient k y.coefficient) (merged m xs k ys)))
 unfolding merged merged_from
 merged-cons m k x y xs ys = refl
 
@@ -83,8 +83,8 @@ behind-step done new node None rest h = absurd h
 behind-step done new node (Some c) None h = refl
 behind-step done new node (Some c) (Some parts) h =
     ap (λ (all : List Part). Some all)
-      (ap (λ (all : List Part). done ++ all) (in_front-append node c parts)
-        ∙ sym (append_assoc done (in_front node c []) parts) ∙ ap (λ (all : List Part). all ++ parts) (sym h))
+    (ap (λ (all : List Part). done ++ all) (in_front-append node c parts)
+    ∙ sym (append_assoc done (in_front node c []) parts) ∙ ap (λ (all : List Part). all ++ parts) (sym h))
 
 -- its coefficient does not fit
 pub behind-fails : (done : List Part) (node : ℕ) (c : Option ℤ) (rest : Option (List Part)) → c ≡ None

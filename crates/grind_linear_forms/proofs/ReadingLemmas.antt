@@ -1,8 +1,7 @@
 -- Readings of terms along a table.
-use Rattle.std.proofs.Common.{◌≡◌, ◌⊎◌, inl, inr, ℕ, zero, suc, ◌+◌, ◌<◌, ◌≤◌, Bool, true, false, cond, List, [], ◌∷◌, ◌++◌, length, map, ℤ, pos, negsuc, ◌+ℤ◌, ◌*ℤ◌, neg_ℤ, Option, Some, None, slice_get, All, Contains, arith, sym, ap, ◌∙◌, refl, subst}
+use Rattle.std.proofs.Common.{◌≡◌, ◌⊎◌, inl, inr, ℕ, zero, suc, ◌+◌, ◌<◌, true, List, [], ◌∷◌, ◌++◌, length, map, ℤ, pos, negsuc, ◌+ℤ◌, ◌*ℤ◌, neg_ℤ, Option, Some, None, slice_get, slice_index_or, All, Contains, arith, sym, ap, ◌∙◌, refl, subst}
 use Rattle.std.specs.Option.{option_and_then}
 use Rattle.std.proofs.lemmas.Bool.{cases_Bool, cases_order, cond-true, cond-false}
-use Rattle.std.proofs.lemmas.List.{append_assoc}
 use Rattle.std.proofs.lemmas.List.Elements.{All-head, All-tail}
 use Rattle.std.proofs.lemmas.Option.{none-some, same_Some, slice_get_past}
 use lib.IntN.{+ℤ_idl}
@@ -12,26 +11,35 @@ use Rattle.grind_term_graph.specs.declared.head.Head.{Head}
 use Rattle.grind_term_graph.specs.declared.head.Head.TheVariants as head
 use Rattle.grind_term_graph.specs.declared.node.Node.{Node}
 use Rattle.grind_linear_forms.specs.declared.form.Part.{Part}
-use Rattle.grind_linear_forms.specs.Forms.{FormData, form_data, number_form, node_form}
+use Rattle.grind_linear_forms.specs.Forms.{FormData, number_form, node_form}
 use Rattle.grind_linear_forms.specs.Sums.{scaled_form, scaled_sum}
 use Rattle.grind_linear_forms.specs.Readings.{is_number, product_form, of_one, of_two, reading_of, found, readings, linear}
+use Rattle.grind_linear_forms.specs.Marks.{reads_arguments}
 use Rattle.grind_linear_forms.specs.Values.{parts_value, form_value, OfOne, OfTwo, Computes, RespectsArithmetic}
 use Rattle.grind_linear_forms.proofs.Linear.{linear as linear_facts}
 use Rattle.grind_linear_forms.proofs.SumValues.{value-scaled_sum, value-scaled_form}
 
 -- ---- lists
-get-before : {A : Type 0} → (xs ys : List A) (k : ℕ) → k < length xs → slice_get (xs ++ ys) k ≡ slice_get xs k
+pub get-before : {A : Type 0} → (xs ys : List A) (k : ℕ) → k < length xs → slice_get (xs ++ ys) k ≡ slice_get xs k
 get-before [] ys k h = absurd (omega arith)
 get-before (x ∷ xs) ys zero h = refl
 get-before (x ∷ xs) ys (suc k) h = get-before xs ys k (omega arith)
 
-get-at : {A : Type 0} → (xs : List A) (y : A) → slice_get (xs ++ y ∷ []) (length xs) ≡ Some y
+pub get-at : {A : Type 0} → (xs : List A) (y : A) → slice_get (xs ++ y ∷ []) (length xs) ≡ Some y
 get-at [] y = refl
 get-at (x ∷ xs) y = get-at xs y
 
-length-push : {A : Type 0} → (xs : List A) (y : A) → length (xs ++ y ∷ []) ≡ length xs + 1
+pub length-push : {A : Type 0} → (xs : List A) (y : A) → length (xs ++ y ∷ []) ≡ length xs + 1
 length-push [] y = refl
 length-push (x ∷ xs) y = omega (arith, length-push xs y)
+
+-- what a list contains is its first item or in the rest
+pub contains-cases : (b : ℕ) (rest : List ℕ) (a : ℕ) → Contains (b ∷ rest) a → (b ≡ a) ⊎ Contains rest a
+contains-cases b rest a h = at_place h.0 h.1 h.2
+  where
+    at_place : (k : ℕ) → k < length (b ∷ rest) → slice_index_or (b ∷ rest) k a ≡ a → (b ≡ a) ⊎ Contains rest a
+    at_place zero below e = inl e
+    at_place (suc k) below e = inr (k, omega arith, e)
 
 -- ---- the readings of a table
 readings-cons : (done : List (Option FormData)) (node : Node) (rest : List Node)
@@ -77,8 +85,8 @@ unfolding linear
 linear-stays nodes more n h =
     let count = length-readings nodes [] in
     found-by (readings [] (nodes ++ more)) (readings [] nodes) n
-      (ap (λ (all : List (Option FormData)). slice_get all n) (readings-append nodes more [])
-        ∙ readings-before more (readings [] nodes) n (omega arith))
+    (ap (λ (all : List (Option FormData)). slice_get all n) (readings-append nodes more [])
+    ∙ readings-before more (readings [] nodes) n (omega arith))
 
 -- ---- a reading knows its arguments alone
 module _ (look other : ℕ → Option FormData) where
@@ -97,7 +105,9 @@ module _ (look other : ℕ → Option FormData) where
       λ i. option_and_then (λ left. option_and_then (f left) (two i)) (one i)
   agree_two f (a ∷ b ∷ c ∷ rest) h = refl
 
-  pub reading-agrees : (n : ℕ) (its_head : Head) (args : List ℕ) → All (λ a. look a ≡ other a) args
+  -- of its arguments only where it is read by them
+  pub reading-agrees : (n : ℕ) (its_head : Head) (args : List ℕ)
+      → (reads_arguments its_head ≡ true → All (λ a. look a ≡ other a) args)
       → reading_of look n its_head args ≡ reading_of other n its_head args
   reading-agrees n head.True args h = refl
   reading-agrees n head.False args h = refl
@@ -108,11 +118,56 @@ module _ (look other : ℕ → Option FormData) where
   reading-agrees n head.Eq args h = refl
   reading-agrees n head.Le args h = refl
   reading-agrees n (head.Int number) args h = refl
-  reading-agrees n head.Add args h = agree_two (λ a b. scaled_sum a (pos 1) b (pos 1)) args h
-  reading-agrees n head.Neg args h = agree_one (scaled_form (negsuc 0)) args h
-  reading-agrees n head.Mul args h = agree_two (product_form n) args h
+  reading-agrees n head.Add args h = agree_two (λ a b. scaled_sum a (pos 1) b (pos 1)) args (h refl)
+  reading-agrees n head.Neg args h = agree_one (scaled_form (negsuc 0)) args (h refl)
+  reading-agrees n head.Mul args h = agree_two (product_form n) args (h refl)
   reading-agrees n (head.Fun function) args h = refl
   reading-agrees n (head.Const constant) args h = refl
+
+-- a node that is read by its arguments has no reading where one of them has none
+module _ (look : ℕ → Option FormData) (n : ℕ) (a : ℕ) (none : look a ≡ None) where
+  strict_one : (f : FormData → Option FormData) (args : List ℕ) → Contains args a → of_one look f args ≡ None
+  strict_one f [] h = absurd (omega (arith, h.1))
+  strict_one f (b ∷ []) h = elim (contains-cases b [] a h) [
+    | inl same ↦ ap (option_and_then f) (ap look same ∙ none)
+    | inr later ↦ absurd (omega (arith, later.1))
+  ]
+  strict_one f (b ∷ c ∷ rest) h = refl
+
+  and_none : (f : FormData → FormData → Option FormData) (one : Option FormData)
+      → option_and_then (λ left. option_and_then (f left) None) one ≡ None
+  and_none f None = refl
+  and_none f (Some left) = refl
+
+  strict_two : (f : FormData → FormData → Option FormData) (args : List ℕ) → Contains args a → of_two look f args ≡ None
+  strict_two f [] h = refl
+  strict_two f (b ∷ []) h = refl
+  strict_two f (b ∷ c ∷ []) h = elim (contains-cases b (c ∷ []) a h) [
+    | inl same ↦ ap (option_and_then (λ left. option_and_then (f left) (look c))) (ap look same ∙ none)
+    | inr later ↦ elim (contains-cases c [] a later) [
+      | inl same ↦ ap (λ (two : Option FormData). option_and_then (λ left. option_and_then (f left) two) (look b)) (ap look same ∙ none)
+          ∙ and_none f (look b)
+      | inr last ↦ absurd (omega (arith, last.1))
+    ]
+  ]
+  strict_two f (b ∷ c ∷ d ∷ rest) h = refl
+
+  pub reading-strict : (its_head : Head) (args : List ℕ) → reads_arguments its_head ≡ true → Contains args a
+      → reading_of look n its_head args ≡ None
+  reading-strict head.True args e h = absurd cc
+  reading-strict head.False args e h = absurd cc
+  reading-strict head.Not args e h = absurd cc
+  reading-strict head.And args e h = absurd cc
+  reading-strict head.Or args e h = absurd cc
+  reading-strict head.Implies args e h = absurd cc
+  reading-strict head.Eq args e h = absurd cc
+  reading-strict head.Le args e h = absurd cc
+  reading-strict (head.Int number) args e h = absurd cc
+  reading-strict head.Add args e h = strict_two (λ a b. scaled_sum a (pos 1) b (pos 1)) args h
+  reading-strict head.Neg args e h = strict_one (scaled_form (negsuc 0)) args h
+  reading-strict head.Mul args e h = strict_two (product_form n) args h
+  reading-strict (head.Fun function) args e h = absurd cc
+  reading-strict (head.Const constant) args e h = absurd cc
 
 -- ---- the reading of a node is made of the readings of its arguments
 reading-at : (nodes : List Node) (done : List (Option FormData)) (k n : ℕ) (node : Node) → n ≡ length done + k
@@ -126,15 +181,15 @@ reading-at (first ∷ rest) done zero n node is e h =
     let here : n ≡ length done = omega arith in
     let same : first ≡ node = same_Some first node e in
     let got : slice_get all n ≡ Some reading =
-        ap (λ (list : List (Option FormData)). slice_get list n) (readings-cons done first rest)
-        ∙ readings-before rest (done ++ reading ∷ []) n (omega arith)
-        ∙ ap (slice_get (done ++ reading ∷ [])) here ∙ get-at done reading in
+    ap (λ (list : List (Option FormData)). slice_get list n) (readings-cons done first rest)
+    ∙ readings-before rest (done ++ reading ∷ []) n (omega arith)
+    ∙ ap (slice_get (done ++ reading ∷ [])) here ∙ get-at done reading in
     let agree : All (λ a. found done a ≡ found all a) node.args =
-        λ i d inside. let below = h i d inside in
-          found-by done all _ (sym (readings-before (first ∷ rest) done _ (omega arith))) in
+    λ i d inside. let below = h i d inside in
+    found-by done all _ (sym (readings-before (first ∷ rest) done _ (omega arith))) in
     ap (option_and_then (λ (form : Option FormData). form)) got
     ∙ (λ i. reading_of (found done) (sym here i) (same i).head (same i).args)
-    ∙ reading-agrees (found done) (found all) n node.head node.args agree
+    ∙ reading-agrees (found done) (found all) n node.head node.args (λ _. agree)
 reading-at (first ∷ rest) done (suc k) n node is e h =
     let reading = reading_of (found done) (length done) first.head first.args in
     let longer = length-push done reading in
@@ -168,20 +223,20 @@ module _ (v : ℕ → ℤ) (associate : ProductsAssociate) (commute : ProductsCo
       → form_value v form ≡ v n
   value-product n a b form e is = elim (cases_Bool (is_number a.parts)) [
     | inl yes_a ↦
-      let scaled = sym (cond-true (is_number a.parts) (scaled_form a.constant b) _ yes_a) ∙ e in
-      value-scaled_form v associate commute distribute b form a.constant scaled
-      ∙ ap (λ (z : ℤ). z *ℤ form_value v b) (sym (value-constant a yes_a)) ∙ sym is
+        let scaled = sym (cond-true (is_number a.parts) (scaled_form a.constant b) _ yes_a) ∙ e in
+        value-scaled_form v associate commute distribute b form a.constant scaled
+        ∙ ap (λ (z : ℤ). z *ℤ form_value v b) (sym (value-constant a yes_a)) ∙ sym is
     | inr no_a ↦ elim (cases_Bool (is_number b.parts)) [
       | inl yes_b ↦
-        let scaled = sym (cond-false (is_number a.parts) (scaled_form a.constant b) _ no_a
-            ∙ cond-true (is_number b.parts) (scaled_form b.constant a) _ yes_b) ∙ e in
-        value-scaled_form v associate commute distribute a form b.constant scaled
-        ∙ ap (λ (z : ℤ). z *ℤ form_value v a) (sym (value-constant b yes_b))
-        ∙ commute (form_value v b) (form_value v a) ∙ sym is
+          let scaled = sym (cond-false (is_number a.parts) (scaled_form a.constant b) _ no_a
+          ∙ cond-true (is_number b.parts) (scaled_form b.constant a) _ yes_b) ∙ e in
+          value-scaled_form v associate commute distribute a form b.constant scaled
+          ∙ ap (λ (z : ℤ). z *ℤ form_value v a) (sym (value-constant b yes_b))
+          ∙ commute (form_value v b) (form_value v a) ∙ sym is
       | inr no_b ↦
-        let itself = sym (cond-false (is_number a.parts) (scaled_form a.constant b) _ no_a
-            ∙ cond-false (is_number b.parts) (scaled_form b.constant a) _ no_b) ∙ e in
-        ap (form_value v) (sym (same_Some _ _ itself)) ∙ value-node n
+          let itself = sym (cond-false (is_number a.parts) (scaled_form a.constant b) _ no_a
+          ∙ cond-false (is_number b.parts) (scaled_form b.constant a) _ no_b) ∙ e in
+          ap (form_value v) (sym (same_Some _ _ itself)) ∙ value-node n
     ]
   ]
 
@@ -227,7 +282,7 @@ module _ (v : ℕ → ℤ) (associate : ProductsAssociate) (commute : ProductsCo
         at_readings (Some left) (Some right) is also e =
             each left right form e
             (subst (λ (x : ℤ). P x (form_value v right)) (sym (means a left is))
-              (subst (λ (y : ℤ). P (v a) y) (sym (means b right also)) h))
+            (subst (λ (y : ℤ). P (v a) y) (sym (means b right also)) h))
     by_two n f P each (a ∷ b ∷ c ∷ rest) h form e = absurd h
 
     value-reading : (n : ℕ) (its_head : Head) (args : List ℕ) → Computes its_head (map v args) (v n)
@@ -263,7 +318,7 @@ module _ (v : ℕ → ℤ) (associate : ProductsAssociate) (commute : ProductsCo
       let computes = subst (λ (n : ℕ). Computes node.head (map v node.args) (v n)) here (respects 0 node refl) in
       value-found rest (done ++ reading ∷ []) (more done known reading (value-reading (found done) known (length done) node.head node.args computes))
       (λ i other is. let there : length done + suc i ≡ length (done ++ reading ∷ []) + i = omega arith in
-        subst (λ (n : ℕ). Computes other.head (map v other.args) (v n)) there (respects (suc i) other is))
+      subst (λ (n : ℕ). Computes other.head (map v other.args) (v n)) there (respects (suc i) other is))
       k form (sym (ap (λ (all : List (Option FormData)). found all k) (readings-cons done node rest)) ∙ e)
     where
       more : (done : List (Option FormData))
@@ -272,14 +327,14 @@ module _ (v : ℕ → ℤ) (associate : ProductsAssociate) (commute : ProductsCo
           → (k : ℕ) (form : FormData) → found (done ++ reading ∷ []) k ≡ Some form → form_value v form ≡ v k
       more done known reading here k form e = elim (cases_order k (length done)) [
         | inl same ↦
-          let got : slice_get (done ++ reading ∷ []) k ≡ Some reading = ap (slice_get (done ++ reading ∷ [])) same ∙ get-at done reading in
-          here form (sym (ap (option_and_then (λ (form : Option FormData). form)) got) ∙ e) ∙ ap v (sym same)
+            let got : slice_get (done ++ reading ∷ []) k ≡ Some reading = ap (slice_get (done ++ reading ∷ [])) same ∙ get-at done reading in
+            here form (sym (ap (option_and_then (λ (form : Option FormData). form)) got) ∙ e) ∙ ap v (sym same)
         | inr (inl below) ↦
-          known k form (sym (found-by (done ++ reading ∷ []) done k (get-before done (reading ∷ []) k below)) ∙ e)
+            known k form (sym (found-by (done ++ reading ∷ []) done k (get-before done (reading ∷ []) k below)) ∙ e)
         | inr (inr above) ↦
-          let longer = length-push done reading in
-          let past : slice_get (done ++ reading ∷ []) k ≡ None = slice_get_past (done ++ reading ∷ []) k (omega arith) in
-          absurd (none-some form (sym (ap (option_and_then (λ (form : Option FormData). form)) past) ∙ e))
+            let longer = length-push done reading in
+            let past : slice_get (done ++ reading ∷ []) k ≡ None = slice_get_past (done ++ reading ∷ []) k (omega arith) in
+            absurd (none-some form (sym (ap (option_and_then (λ (form : Option FormData). form)) past) ∙ e))
       ]
 
   -- a term has the value of its reading
@@ -290,4 +345,4 @@ module _ (v : ℕ → ℤ) (associate : ProductsAssociate) (commute : ProductsCo
       value-found nodes []
       (λ k form e. absurd (none-some form e))
       (λ k node is. let same : k ≡ 0 + k = omega arith in
-        subst (λ (m : ℕ). Computes node.head (map v node.args) (v m)) same (respects k node is)) n form e
+      subst (λ (m : ℕ). Computes node.head (map v node.args) (v m)) same (respects k node is)) n form e

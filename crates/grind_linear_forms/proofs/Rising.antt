@@ -1,11 +1,10 @@
 -- What is made of parts that rise strictly, without 0, is so too.
-use Rattle.std.proofs.Common.{◌≡◌, ◌≢◌, ◌⊎◌, inl, inr, ℕ, zero, suc, ◌<◌, ◌≤◌, ltb, List, [], ◌∷◌, ◌++◌, ℤ, pos, negsuc, ◌*ℤ◌, Option, Some, None, arith, sym, ap, ◌∙◌, refl, subst}
+use Rattle.std.proofs.Common.{◌≡◌, ◌≢◌, inl, inr, ℕ, zero, suc, ◌≤◌, List, [], ◌∷◌, ℤ, pos, negsuc, ◌*ℤ◌, Option, Some, None, arith, sym, ap, ◌∙◌, refl, subst}
 use Rattle.std.proofs.lemmas.Bool.{cases_order}
 use Rattle.std.proofs.lemmas.Option.{none-some, same_Some}
-use Rattle.std.specs.Option.{option_map}
 use lib.IntN.{*ℤ-zero}
 use Rattle.grind_linear_forms.specs.declared.form.Part.{Part}
-use Rattle.grind_linear_forms.specs.Forms.{RisesFrom, part_of}
+use Rattle.grind_linear_forms.specs.Forms.{RisesFrom}
 use Rattle.grind_linear_forms.specs.Sums.{multiple, combination, in_front, front, multiplied, merged}
 use Rattle.grind_linear_forms.specs.Cuts.{times}
 use Rattle.grind_linear_forms.proofs.Merging.{multiplied-nil, multiplied-cons, merged-nil, merged-left, merged-less, merged-more, merged-same}

@@ -1,11 +1,11 @@
 -- The value of a sum of multiples of forms.
-use Rattle.std.proofs.Common.{◌≡◌, ◌⊎◌, inl, inr, ℕ, zero, suc, ◌<◌, ◌≤◌, List, [], ◌∷◌, ◌++◌, ℤ, pos, negsuc, ◌+ℤ◌, ◌*ℤ◌, Option, Some, None, arith, sym, ap, ◌∙◌, refl, subst}
+use Rattle.std.proofs.Common.{◌≡◌, inl, inr, ℕ, zero, suc, ◌<◌, List, [], ◌∷◌, ℤ, pos, negsuc, ◌+ℤ◌, ◌*ℤ◌, Option, Some, None, arith, sym, ap, ◌∙◌, refl}
 use Rattle.std.proofs.lemmas.Bool.{cases_order}
 use Rattle.std.proofs.lemmas.Option.{none-some, same_Some}
 use lib.IntN.{zero-*ℤ, *ℤ-zero, +ℤ_idl}
 use Rattle.grind_lemmas.specs.Products.{ProductsAssociate, ProductsCommute, ProductsDistribute}
 use Rattle.grind_linear_forms.specs.declared.form.Part.{Part}
-use Rattle.grind_linear_forms.specs.Forms.{FormData, form_data}
+use Rattle.grind_linear_forms.specs.Forms.{FormData}
 use Rattle.grind_linear_forms.specs.Sums.{multiple, combination, in_front, front, multiplied, merged, scaled_form, scaled_sum}
 use Rattle.grind_linear_forms.specs.Values.{parts_value, form_value}
 use Rattle.grind_linear_forms.proofs.Linear.{linear}
@@ -66,21 +66,21 @@ module _ (v : ℕ → ℤ) where
         let rest = value-multiplied m xs w.1 w.3 in
         let zero_more : parts_value v w.1 ≡ m *ℤ parts_value v xs +ℤ pos 0 = omega (arith, linear) in
         let step = step_left m x.coefficient (v x.node) (parts_value v xs) (pos 0) (parts_value v w.1) w.0
-            (multiple_is m x.coefficient w.0 w.2) zero_more in
+        (multiple_is m x.coefficient w.0 w.2) zero_more in
         let made = value-in_front x.node w.0 w.1 in
         let all_is = ap (parts_value v) w.4 in omega (arith, linear)
 
     module _ (m k : ℤ) (x : Part) (xs : List Part)
         (below : (ys all : List Part) → merged m xs k ys ≡ Some all
-          → parts_value v all ≡ m *ℤ parts_value v xs +ℤ k *ℤ parts_value v ys) where
+        → parts_value v all ≡ m *ℤ parts_value v xs +ℤ k *ℤ parts_value v ys) where
       module _ (y : Part) (ys all : List Part) (e : merged m (x ∷ xs) k (y ∷ ys) ≡ Some all) where
         both_sides : x.node ≡ y.node → parts_value v all ≡ m *ℤ parts_value v (x ∷ xs) +ℤ k *ℤ parts_value v (y ∷ ys)
         both_sides same =
             let w = front-some x.node (combination m x.coefficient k y.coefficient) (merged m xs k ys) all
-                (sym (merged-same m k x y xs ys (omega arith) (omega arith)) ∙ e) in
+            (sym (merged-same m k x y xs ys (omega arith) (omega arith)) ∙ e) in
             let rest = below ys w.1 w.3 in
             let step = step_both m x.coefficient k y.coefficient (v x.node) (parts_value v xs) (parts_value v ys)
-                (parts_value v w.1) w.0 (combination_is m x.coefficient k y.coefficient w.0 w.2) rest in
+            (parts_value v w.1) w.0 (combination_is m x.coefficient k y.coefficient w.0 w.2) rest in
             let made = value-in_front x.node w.0 w.1 in
             let all_is = ap (parts_value v) w.4 in
             let other = ap (λ (n : ℕ). k *ℤ (y.coefficient *ℤ v n +ℤ parts_value v ys)) same in omega (arith, linear)
@@ -88,22 +88,22 @@ module _ (v : ℕ → ℤ) where
         left_side : x.node < y.node → parts_value v all ≡ m *ℤ parts_value v (x ∷ xs) +ℤ k *ℤ parts_value v (y ∷ ys)
         left_side less =
             let w = front-some x.node (multiple m x.coefficient) (merged m xs k (y ∷ ys)) all
-                (sym (merged-less m k x y xs ys less) ∙ e) in
+            (sym (merged-less m k x y xs ys less) ∙ e) in
             let rest = below (y ∷ ys) w.1 w.3 in
             let step = step_left m x.coefficient (v x.node) (parts_value v xs) (k *ℤ parts_value v (y ∷ ys))
-                (parts_value v w.1) w.0 (multiple_is m x.coefficient w.0 w.2) rest in
+            (parts_value v w.1) w.0 (multiple_is m x.coefficient w.0 w.2) rest in
             let made = value-in_front x.node w.0 w.1 in
             let all_is = ap (parts_value v) w.4 in omega (arith, linear)
 
         right_side : ((parts : List Part) → merged m (x ∷ xs) k ys ≡ Some parts
-              → parts_value v parts ≡ m *ℤ parts_value v (x ∷ xs) +ℤ k *ℤ parts_value v ys)
+            → parts_value v parts ≡ m *ℤ parts_value v (x ∷ xs) +ℤ k *ℤ parts_value v ys)
             → y.node < x.node → parts_value v all ≡ m *ℤ parts_value v (x ∷ xs) +ℤ k *ℤ parts_value v (y ∷ ys)
         right_side later more =
             let w = front-some y.node (multiple k y.coefficient) (merged m (x ∷ xs) k ys) all
-                (sym (merged-more m k x y xs ys more) ∙ e) in
+            (sym (merged-more m k x y xs ys more) ∙ e) in
             let rest = later w.1 w.3 in
             let step = step_right k y.coefficient (v y.node) (parts_value v ys) (m *ℤ parts_value v (x ∷ xs))
-                (parts_value v w.1) w.0 (multiple_is k y.coefficient w.0 w.2) rest in
+            (parts_value v w.1) w.0 (multiple_is k y.coefficient w.0 w.2) rest in
             let made = value-in_front y.node w.0 w.1 in
             let all_is = ap (parts_value v) w.4 in omega (arith, linear)
 

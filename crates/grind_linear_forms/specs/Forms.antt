@@ -1,5 +1,5 @@
 -- Linear forms: sums of nodes with coefficients, and a constant.
-use Rattle.std.specs.Prelude.{◌≢◌, ℕ, zero, suc, ◌≤◌, ◌^◌, List, [], ◌∷◌, Option, Some, None, nat_lt, if◌then◌else◌, ⊤, ℤ, pos, negsuc}
+use Rattle.std.specs.Prelude.{◌≢◌, ℕ, suc, ◌≤◌, ◌^◌, List, [], ◌∷◌, Option, Some, None, nat_lt, if◌then◌else◌, ⊤, ℤ, pos, negsuc}
 use Rattle.grind_linear_forms.specs.declared.form.Part.{Part}
 
 -- a linear form: the nodes with their coefficients, and what is added to them

@@ -1,8 +1,9 @@
 -- Which nodes a reading needs.
-use Rattle.std.specs.Prelude.{◌≡◌, ℕ, suc, ◌≤◌, List, length, All, Option, Some, None, slice_get, Bool, true, false}
+use Rattle.std.specs.Prelude.{◌≡◌, ℕ, suc, ◌≤◌, ◌<◌, List, length, All, Some, None, slice_get, Bool, true, false}
 use Rattle.grind_term_graph.specs.declared.head.Head.{Head}
 use Rattle.grind_term_graph.specs.declared.head.Head.TheVariants as head
 use Rattle.grind_term_graph.specs.declared.node.Node.{Node}
+use Rattle.grind_linear_forms.specs.Forms.{FormData}
 use Rattle.grind_linear_forms.specs.Readings.{linear}
 
 -- a term of this head is read by its arguments
@@ -41,3 +42,7 @@ pub record IsMarking (nodes : List Node) (root : ℕ) (marks : List Bool) (from 
   pub top : IsMarked marks root
   pub needed : (n : ℕ) → IsMarked marks n → Spoils nodes root n
   pub closed : (n : ℕ) → from ≤ n → HasMarkedArguments nodes marks n
+
+-- of the first nodes, one for each of these forms, those that are marked have these forms as their readings
+abbrev pub AreRead : List Node → List Bool → List FormData → Type 0
+AreRead nodes marks forms = (n : ℕ) → n < length forms → IsMarked marks n → linear nodes n ≡ slice_get forms n

@@ -1,5 +1,5 @@
 //! Which nodes a reading needs.
-ghost use Rattle.std.specs.Prelude.{◌≡◌, ℕ, suc, ◌<◌, ◌⊎◌, All, Contains, length, IfOk, true, IsTrue};
+ghost use Rattle.std.specs.Prelude.{◌≡◌, ℕ, suc, ◌<◌, ◌⊎◌, All, Contains, length, IfOk, true, IsTrue, ◌↔◌};
 ghost use Rattle.grind_linear_forms.specs.Marks.{reads_arguments, IsMarked, IsMarking};
 
 use grind_outside::{List, Memory};
@@ -19,11 +19,19 @@ pub(crate) fn needed_nodes(
     let mut number = root.number() as usize + 1;
     while number > 0 {
         number -= 1;
-        if marks.as_slice()[number] {
+        if is_marked(marks.as_slice(), number) {
             mark_arguments(&mut marks, table.node(NodeId::new(number as u32)));
         }
     }
     Ok(marks)
+}
+
+// Whether a number is marked.
+pub(crate) fn is_marked(marks: &[bool], n: usize) -> bool
+    requires { n < length marks.now }
+    ensures { IsTrue result ↔ IsMarked marks.now n }
+{
+    marks[n]
 }
 
 // No marks for the first numbers, so many of them, and one behind them.

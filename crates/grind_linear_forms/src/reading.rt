@@ -1,11 +1,12 @@
 //! Terms read as linear forms.
 ghost use Rattle.std.specs.Prelude.{◌≡◌, ◌<◌, All, length, slice_get, Some, None, IfOk, IsErrOf, pos, negsuc};
 ghost use Rattle.grind_term_graph.specs.Terms.{int, sort_at};
+ghost use Rattle.grind_linear_forms.specs.Marks.{IsMarked, HasMarkedArguments, AreRead};
 ghost use Rattle.grind_linear_forms.specs.Readings.{linear, of_one, of_two, product_form, reading_of};
 ghost use Rattle.grind_linear_forms.specs.Sums.{scaled_form, scaled_sum};
 
 use crate::form::{Form, FormRefusal};
-use crate::marking::needed_nodes;
+use crate::marking::{is_marked, needed_nodes};
 use crate::sum::{add_scaled, scale};
 use grind_outside::{List, Memory};
 use grind_term_graph::{Head, Node, NodeId, TermTable};
@@ -24,24 +25,39 @@ pub fn linear_of(alloc: Global, table: &TermTable, id: NodeId) -> Result<Form, F
     let needed = needed_nodes(alloc, table, id)?;
     let mut forms = List::new(alloc);
     for number in 0..id.number() {
-        let form = if needed.as_slice()[number as usize] {
-            let node = NodeId::new(number);
-            read_node(alloc, node, table.node(node), forms.as_slice())?
-        } else {
-            Form::number(alloc, 0)
-        };
+        let node = NodeId::new(number);
+        let form = read_needed(alloc, table, needed.as_slice(), node, forms.as_slice())?;
         forms.push(form)?;
     }
-    read_node(alloc, id, table.node(id), forms.as_slice())
+    let form = read_needed(alloc, table, needed.as_slice(), id, forms.as_slice())?;
+    Ok(form)
+}
+
+// The reading of a node, where it is needed, from those of the nodes before it. A node that is not needed is not read.
+fn read_needed(
+    alloc: Global,
+    table: &TermTable,
+    needed: &[bool],
+    n: NodeId,
+    forms: &[Form],
+) -> Result<Form, FormRefusal>
+    requires within { n < length table.now.nodes }
+    requires marks { n < length needed.now }
+    requires closed { HasMarkedArguments table.now.nodes needed.now n }
+    requires count { length forms.now ≡ n }
+    requires known { AreRead table.now.nodes needed.now forms.now }
+    ensures ok { IfOk result (λ form. IsMarked needed.now n → linear table.now.nodes n ≡ Some form) }
+    ensures overflow { IsErrOf result FormRefusal.Overflow → IsMarked needed.now n × (linear table.now.nodes n ≡ None) }
+{
+    if !is_marked(needed, n.number() as usize) {
+        return Ok(Form::number(alloc, 0));
+    }
+    let form = read_node(alloc, n, table.node(n), forms)?;
+    Ok(form)
 }
 
 // The reading of a node from those of its arguments, which stand at their numbers.
-fn read_node(
-    alloc: Global,
-    n: NodeId,
-    node: &Node,
-    forms: &[Form],
-) -> Result<Form, FormRefusal>
+fn read_node(alloc: Global, n: NodeId, node: &Node, forms: &[Form]) -> Result<Form, FormRefusal>
     requires { All (λ arg. arg < length forms.now) node.now.args }
     ensures ok { IfOk result (λ form. reading_of (slice_get forms.now) n node.now.head node.now.args ≡ Some form) }
     ensures overflow { IsErrOf result FormRefusal.Overflow → reading_of (slice_get forms.now) n node.now.head node.now.args ≡ None }

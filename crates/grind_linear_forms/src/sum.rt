@@ -14,13 +14,7 @@ use std::alloc::Global;
 /// # Errors
 ///
 /// `Overflow` exactly where a product or a sum on the way does not fit in 128 bits.
-pub fn add_scaled(
-    alloc: Global,
-    a: &Form,
-    m: i128,
-    b: &Form,
-    k: i128,
-) -> Result<Form, FormRefusal>
+pub fn add_scaled(alloc: Global, a: &Form, m: i128, b: &Form, k: i128) -> Result<Form, FormRefusal>
     ensures ok { IfOk result (λ form. scaled_sum a.now m b.now k ≡ Some form) }
     ensures overflow { IsErrOf result FormRefusal.Overflow → scaled_sum a.now m b.now k ≡ None }
 {
@@ -86,7 +80,11 @@ fn merge(
             append(&mut done, y.node, multiple_of(k, y.coefficient))?;
             others = ys;
         } else {
-            append(&mut done, x.node, combination_of(m, x.coefficient, k, y.coefficient))?;
+            append(
+                &mut done,
+                x.node,
+                combination_of(m, x.coefficient, k, y.coefficient),
+            )?;
             rest = xs;
             others = ys;
         }

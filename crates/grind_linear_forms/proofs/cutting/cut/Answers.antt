@@ -1,9 +1,9 @@
-use Rattle.std.proofs.Common.{◌≡◌, ◌∷◌, [], ◌++◌, FitsSigned, List, rules, sym, ap, ◌∙◌, subst}
+use Rattle.std.proofs.Common.{List, sym, ◌∙◌, subst}
 use Rattle.std.specs.Int.{w128}
 use Rattle.std.proofs.lemmas.Int.{to_z-of_z}
 use Rattle.grind_linear_forms.specs.declared.form.Part.{Part}
 use Rattle.grind_linear_forms.specs.Forms.{RisesFrom}
-use Rattle.grind_linear_forms.specs.Cuts.{times, Divides, DividesAll}
+use Rattle.grind_linear_forms.specs.Cuts.{DividesAll}
 use Rattle.grind_linear_forms.proofs.Rising.{rises-times}
 use Rattle.grind_linear_forms.proofs.cutting.cut.Goals as goal
 

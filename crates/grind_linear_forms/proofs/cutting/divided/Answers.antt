@@ -1,10 +1,10 @@
-use Rattle.std.proofs.Common.{◌≡◌, ◌∷◌, [], ◌++◌, FitsSigned, List, rules, sym, ap, ◌∙◌, subst}
+use Rattle.std.proofs.Common.{◌++◌, FitsSigned, List, rules, ap, subst}
 use Rattle.std.specs.Int.{w128}
 use Rattle.std.proofs.lemmas.Int.{to_z-of_z}
 use Rattle.std.proofs.lemmas.List.Elements.{All-head, All-tail}
 use Rattle.grind_linear_forms.specs.declared.form.Part.{Part}
 use Rattle.grind_linear_forms.specs.Cuts.{times, Divides, DividesAll}
-use Rattle.grind_linear_forms.proofs.CutLemmas.{divided_step, divided_end}
+use Rattle.grind_linear_forms.proofs.CutLemmas.{divided_step}
 use Rattle.grind_linear_forms.proofs.cutting.divided.Goals as goal
 
 pub loop-part-init : goal.loop-part-init
@@ -21,7 +21,7 @@ quotient-coefficient-requires-clause-multiple c =
     let fits : FitsSigned w128 c.in-Some.part.now.coefficient = search rules in
     let all = simp back at c.loop-part.invariant.divides in
     simp (back, to_z-of_z w128 c.in-Some.part.now.coefficient fits)
-      (All-head (Divides c.args.g) c.in-Some.part.now c.in-Some.tail.now (subst (DividesAll c.args.g) c.in-Some.ensures.cases.0 all))
+    (All-head (Divides c.args.g) c.in-Some.part.now c.in-Some.tail.now (subst (DividesAll c.args.g) c.in-Some.ensures.cases.0 all))
 
 pub loop-part-preserved : goal.loop-part-preserved
 loop-part-preserved c =
@@ -35,8 +35,7 @@ loop-part-preserved c =
     record {
       whole = simp back
           (divided_step c.args.g c.args.parts.now c.loop-part.quotients c.push.new.self c.loop-part.rest.now c.in-Some.tail.now c.in-Some.part.now
-            c.quotient-coefficient.result c.in-Some.ensures.cases.0 made pushed whole);
+          c.quotient-coefficient.result c.in-Some.ensures.cases.0 made pushed whole);
       divides = simp back
           (All-tail (Divides c.args.g) c.in-Some.part.now c.in-Some.tail.now (subst (DividesAll c.args.g) c.in-Some.ensures.cases.0 all));
     }
-

@@ -1,4 +1,4 @@
-use Rattle.std.proofs.Common.{◌≡◌, List, ◌↔◌, IsTrue, sym, ap, ◌∙◌, subst}
+use Rattle.std.proofs.Common.{List, ◌↔◌, IsTrue, subst}
 use Rattle.std.specs.Int.{w128}
 use Rattle.std.proofs.lemmas.Int.{to_z-of_z}
 use Rattle.grind_linear_forms.specs.declared.form.Part.{Part}

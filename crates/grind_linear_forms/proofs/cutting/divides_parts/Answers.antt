@@ -1,4 +1,4 @@
-use Rattle.std.proofs.Common.{◌≡◌, ◌∷◌, FitsSigned, List, IsTrue, false, rules, sym, ap, ◌∙◌, subst}
+use Rattle.std.proofs.Common.{FitsSigned, List, rules, sym, ◌∙◌, subst}
 use Rattle.std.specs.Int.{w128}
 use Rattle.std.proofs.lemmas.Bool.{false≢true}
 use Rattle.std.proofs.lemmas.Int.{to_z-of_z}
@@ -16,9 +16,9 @@ returns-then-not-is_multiple c =
     let so_far = simp back at c.loop-part.invariant in (
       λ e. absurd (false≢true e),
       λ all.
-        let rest = subst (λ (parts : List Part). DividesAll c.args.g parts) c.in-Some.ensures.cases.0 (so_far.1 all) in
-        let first = All-head (Divides c.args.g) c.in-Some.part.now c.in-Some.tail.now rest in
-        sym c.if-not-is_multiple.true ∙ tested.1 first,
+          let rest = subst (λ (parts : List Part). DividesAll c.args.g parts) c.in-Some.ensures.cases.0 (so_far.1 all) in
+          let first = All-head (Divides c.args.g) c.in-Some.part.now c.in-Some.tail.now rest in
+          sym c.if-not-is_multiple.true ∙ tested.1 first,
     )
 
 pub loop-part-preserved : goal.loop-part-preserved
@@ -30,9 +30,9 @@ loop-part-preserved c =
     let first = tested.0 c.if-not-is_multiple.false in
     simp back (
       λ rest. so_far.0 (subst (λ (parts : List Part). DividesAll c.args.g parts) (sym c.in-Some.ensures.cases.0)
-        (All-cons (Divides c.args.g) c.in-Some.part.now c.in-Some.tail.now first rest)),
+          (All-cons (Divides c.args.g) c.in-Some.part.now c.in-Some.tail.now first rest)),
       λ all. All-tail (Divides c.args.g) c.in-Some.part.now c.in-Some.tail.now
-        (subst (λ (parts : List Part). DividesAll c.args.g parts) c.in-Some.ensures.cases.0 (so_far.1 all)),
+          (subst (λ (parts : List Part). DividesAll c.args.g parts) c.in-Some.ensures.cases.0 (so_far.1 all)),
     )
 
 pub returns : goal.returns

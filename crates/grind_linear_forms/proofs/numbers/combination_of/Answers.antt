@@ -1,7 +1,6 @@
-use Rattle.std.proofs.Common.{◌≡◌, FitsSigned, Some, None, rules, sym, ◌∙◌}
+use Rattle.std.proofs.Common.{FitsSigned, rules, sym, ◌∙◌}
 use Rattle.std.proofs.lemmas.Int.{to_z-of_z}
 use Rattle.std.specs.Int.{w128}
-use Rattle.grind_linear_forms.specs.Sums.{multiple}
 use Rattle.grind_linear_forms.proofs.Fits.{combination_from, combination_left, combination_right}
 use Rattle.grind_linear_forms.proofs.numbers.combination_of.Goals as goal
 

@@ -1,4 +1,4 @@
-use Rattle.std.proofs.Common.{◌≡◌, pos, FitsSigned, rules, sym, ◌∙◌}
+use Rattle.std.proofs.Common.{FitsSigned, rules, sym, ◌∙◌}
 use Rattle.std.proofs.lemmas.Int.{to_z-of_z}
 use Rattle.std.specs.Int.{w128}
 use Rattle.grind_linear_forms.proofs.Fits.{no_bits}

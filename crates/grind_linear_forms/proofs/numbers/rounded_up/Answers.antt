@@ -1,4 +1,4 @@
-use Rattle.std.proofs.Common.{◌≡◌, ◌≤ℤ◌, ◌<ℤ◌, ◌+ℤ◌, ◌^◌, ◌-◌, ℤ, pos, FitsSigned, rules, arith, sym, ap, ◌∙◌, subst}
+use Rattle.std.proofs.Common.{◌≤ℤ◌, ◌<ℤ◌, ◌+ℤ◌, ◌^◌, ◌-◌, ℤ, pos, FitsSigned, rules, arith, sym, subst}
 use Rattle.std.proofs.lemmas.Int.{to_z-of_z}
 use borrow.Author.Differences.{ints}
 use Rattle.std.specs.Int.{w128}

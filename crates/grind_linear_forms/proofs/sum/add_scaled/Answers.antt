@@ -1,8 +1,6 @@
-use Rattle.std.proofs.Common.{◌≡◌, FitsSigned, None, Some, IsErrOf, List, rules, sym, ap, ◌∙◌, subst}
+use Rattle.std.proofs.Common.{sym, ◌∙◌}
 use Rattle.std.specs.Int.{w128}
 use Rattle.std.proofs.lemmas.Int.{to_z-of_z}
-use Rattle.grind_linear_forms.specs.declared.form.Part.{Part}
-use Rattle.grind_linear_forms.specs.Forms.{RisesFrom}
 use Rattle.grind_linear_forms.specs.Sums.{merged}
 use Rattle.grind_linear_forms.proofs.Rising.{rises-merged}
 use Rattle.grind_linear_forms.proofs.sum.add_scaled.Goals as goal
