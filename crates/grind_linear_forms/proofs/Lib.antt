@@ -7,3 +7,4 @@ pub mod CutLemmas
 pub mod ReadingLemmas
 pub mod MarkLemmas
 pub mod Naming
+pub mod ByNode

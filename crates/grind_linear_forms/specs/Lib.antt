@@ -6,3 +6,4 @@ pub mod Marks
 pub mod Values
 pub mod Laws
 pub mod Naming
+pub mod Coefficients

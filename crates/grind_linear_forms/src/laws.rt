@@ -1,5 +1,6 @@
 //! What linear forms mean. Each law is a call without an answer: who makes the call knows the law.
 ghost use Rattle.grind_linear_forms.specs.Laws.{SumsHaveTheirValues, ReadingsHaveTheirValues, ReadingsStay, CutsStayBelow, OneCut};
+ghost use Rattle.grind_linear_forms.specs.Coefficients.{SumsByNode, RefusalsByNode, FormsByNode};
 ghost use Rattle.grind_linear_forms.specs.Naming.{ReadingsNameNumbers, SumsNameNumbers, CutsNameNumbers};
 
 use grind_lemmas::{
@@ -60,4 +61,19 @@ pub fn sums_name_numbers()
 /// A cut of a form that names whole numbers names whole numbers alone.
 pub fn cuts_name_numbers()
     ensures { CutsNameNumbers }
+{}
+
+/// A sum of multiples of forms has at each node the sum of multiples of the coefficients there.
+pub fn sums_by_node()
+    ensures { SumsByNode }
+{}
+
+/// Where a sum of multiples of forms is not defined, one is not defined at some node or for the constants.
+pub fn refusals_by_node()
+    ensures { RefusalsByNode }
+{}
+
+/// Two forms with the same coefficient at each node and the same constant are one.
+pub fn forms_by_node()
+    ensures { FormsByNode }
 {}
