@@ -199,7 +199,9 @@ fn files_of_every_form(rt: HostRuntime) -> Result<(), Fail> {
     for text in READ {
         runs_as(&rt, text.as_bytes(), &[Status::AllClosed, Status::SomeOpen])?;
     }
-    Ok(())
+    let names =
+        "sort Gr\u{f6}\u{df}e. fun n\u{e9}e: Gr\u{f6}\u{df}e. goal t: |- n\u{e9}e = n\u{e9}e.";
+    runs_as(&rt, names.as_bytes(), &[Status::AllClosed])
 }
 
 /// The first text, then the piece so many times, then the last.
