@@ -330,12 +330,12 @@ fn open_parentheses(rt: HostRuntime) -> Result<(), Fail> {
     refuses(&rt, text.as_slice(), DEEP)
 }
 
-/// A goal whose table has `2 * count + 2` nodes: true, false, and so many numbers with their equations. One more where
-/// the conclusion is negated.
-fn wide(alloc: Global, count: u32, negated: bool) -> Result<Vec<u8>, Fail> {
+/// A goal whose table has `2 * end` nodes: true, false, and the numbers from 1 that are below the end, with their
+/// equations. One more where the conclusion is negated.
+fn wide(alloc: Global, end: u32, negated: bool) -> Result<Vec<u8>, Fail> {
     let mut text = Vec::new(alloc);
     text.extend_from_slice(b"goal t: 1 = 1")?;
-    for i in 2..count + 1 {
+    for i in 2..end {
         let piece = format!(in alloc; " ; {i} = {i}")?;
         text.extend_from_slice(piece.as_bytes())?;
     }
@@ -351,8 +351,8 @@ fn wide(alloc: Global, count: u32, negated: bool) -> Result<Vec<u8>, Fail> {
 #[test]
 fn nodes_of_a_goal(rt: HostRuntime) -> Result<(), Fail> {
     let alloc = rt.alloc();
-    let text = wide(alloc, 32_767, false)?;
+    let text = wide(alloc, 32_768, false)?;
     runs_as(&rt, text.as_slice(), &[Status::AllClosed])?;
-    let text = wide(alloc, 32_767, true)?;
+    let text = wide(alloc, 32_768, true)?;
     refuses(&rt, text.as_slice(), "declaration 1: too large")
 }
