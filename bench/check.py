@@ -22,7 +22,7 @@ def seconds(program, family, size, jobs):
     best = None
     for _ in range(ROUNDS):
         run = subprocess.run([program, family, str(size), str(jobs)], check=True, capture_output=True, text=True)
-        micros = int(run.stdout.split()[-1])
+        micros = int(run.stderr.split()[-1])
         best = micros if best is None else min(best, micros)
     return best / 1_000_000
 
