@@ -77,7 +77,7 @@ def one_name(size):
     """One name of 255 bytes, in as many hypotheses as there is room for."""
     name = "n" * 255
     formula = f"{name} = {name}"
-    count = (size - 600) // (len(formula) + 3)
+    count = (size - 900) // (len(formula) + 3)
     return f"sort S.\ngoal g ({name}: S): {' ; '.join([formula] * count)} |- {formula}.\n"
 
 
