@@ -1,0 +1,23 @@
+//! Linear forms over the nodes of a term table: sums of nodes with coefficients, and a constant. A term is read as a
+//! form, forms are added and multiplied by numbers, and a form is divided by a number that divides its coefficients.
+//! Every number is one of 128 bits, and a call says where one does not fit.
+#![tactic(auto)]
+
+pub mod cutting;
+pub mod form;
+pub mod laws;
+mod marking;
+mod numbers;
+pub mod reading;
+pub mod sum;
+
+pub use cutting::{cut, divides};
+pub use form::{Form, FormRefusal, Part};
+pub use laws::{
+    cuts_stay_below, one_cut, readings_have_their_values, readings_stay, sums_have_their_values,
+};
+pub use reading::linear_of;
+pub use sum::{add_scaled, scale};
+
+#[cfg(test)]
+mod tests;
