@@ -1,8 +1,7 @@
 -- The order, the product and the quotient of monomials, clause by clause.
-use Rattle.std.proofs.Common.{◌≡◌, ℕ, zero, suc, ◌<◌, ◌≤◌, ltb, cond, List, [], ◌∷◌, ◌++◌, length, arith, sym, ap, ◌∙◌, refl}
+use Rattle.std.proofs.Common.{◌≡◌, ℕ, suc, ◌<◌, ◌≤◌, ltb, cond, List, [], ◌∷◌, ◌++◌, length, arith, sym, ap, ◌∙◌, refl}
 use Rattle.std.proofs.lemmas.Bool.{cond-true, cond-false, lt-ltb, le-ltb}
 use Rattle.std.proofs.lemmas.List.{append_assoc, append-nil}
-use Rattle.grind_monomials.specs.declared.order.Place.{Place}
 use Rattle.grind_monomials.specs.declared.order.Place.TheVariants.{Above, Same, Below}
 use Rattle.grind_monomials.specs.Order.{place, place_by_nodes}
 use Rattle.grind_monomials.specs.Monomials.{product, product_from, quotient, quotient_from}
