@@ -1,0 +1,5 @@
+pub mod Fits
+pub mod Putting
+pub mod Products
+pub mod Falling
+pub mod SumValues

@@ -1,0 +1,4 @@
+pub mod Polynomials
+pub mod Sums
+pub mod Values
+pub mod Laws
