@@ -1,7 +1,7 @@
 -- A quotient rounded up, without division.
 use Rattle.std.specs.Prelude.{◌≡◌, ℤ, pos, ◌+ℤ◌, ◌*ℤ◌, ◌≤ℤ◌, ◌<ℤ◌}
 
--- q is the least whole number whose product with the positive number g is at least c: c divided by g, rounded up
+-- the number c divided by g, rounded up: q is the least whole number whose product with the positive number g is at least c
 pub record IsCeil (c g q : ℤ) : Type 0 where
   pub above : c ≤ℤ (g *ℤ q)
   pub least : (g *ℤ q) <ℤ (c +ℤ g)

@@ -6,3 +6,4 @@ pub mod SumValues
 pub mod CutLemmas
 pub mod ReadingLemmas
 pub mod MarkLemmas
+pub mod Naming

@@ -42,12 +42,12 @@ contains-cases b rest a h = at_place h.0 h.1 h.2
     at_place (suc k) below e = inr (k, omega arith, e)
 
 -- ---- the readings of a table
-readings-cons : (done : List (Option FormData)) (node : Node) (rest : List Node)
+pub readings-cons : (done : List (Option FormData)) (node : Node) (rest : List Node)
     → readings done (node ∷ rest) ≡ readings (done ++ reading_of (found done) (length done) node.head node.args ∷ []) rest
 unfolding readings
 readings-cons done node rest = refl
 
-readings-nil : (done : List (Option FormData)) → readings done [] ≡ done
+pub readings-nil : (done : List (Option FormData)) → readings done [] ≡ done
 unfolding readings
 readings-nil done = refl
 
@@ -76,7 +76,7 @@ length-readings (node ∷ rest) done =
     let longer = length-push done reading in
     let more = length-readings rest (done ++ reading ∷ []) in ap length (readings-cons done node rest) ∙ omega arith
 
-found-by : (xs ys : List (Option FormData)) (k : ℕ) → slice_get xs k ≡ slice_get ys k → found xs k ≡ found ys k
+pub found-by : (xs ys : List (Option FormData)) (k : ℕ) → slice_get xs k ≡ slice_get ys k → found xs k ≡ found ys k
 found-by xs ys k e = ap (option_and_then (λ (form : Option FormData). form)) e
 
 -- the reading of a term stays the same where the table grows

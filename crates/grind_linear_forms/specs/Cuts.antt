@@ -17,7 +17,7 @@ DividesAll g parts = All (Divides g) parts
 abbrev pub times : ℤ → List Part → List Part
 times g parts = map (λ (part : Part). part_of part.node (g *ℤ part.coefficient)) parts
 
--- g times the parts of the cut are those of the form, and its constant is that of the form divided by g, rounded up
+-- the parts of the form are g times those of the cut, whose constant is that of the form divided by g, rounded up
 pub record IsCut (form : FormData) (g : ℤ) (cut : FormData) : Type 0 where
   pub parts_of : form.parts ≡ times g cut.parts
   pub constant_of : IsCeil form.constant g cut.constant

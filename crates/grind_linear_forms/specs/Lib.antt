@@ -5,3 +5,4 @@ pub mod Readings
 pub mod Marks
 pub mod Values
 pub mod Laws
+pub mod Naming

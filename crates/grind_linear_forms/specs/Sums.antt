@@ -4,11 +4,11 @@ use Rattle.std.specs.Option.{option_map, option_and_then}
 use Rattle.grind_linear_forms.specs.declared.form.Part.{Part}
 use Rattle.grind_linear_forms.specs.Forms.{FormData, form_data, part_of, fit}
 
--- x taken m times
+-- m times x, where that fits
 unfoldable pub multiple : ℤ → ℤ → Option ℤ
 multiple m x = fit (m *ℤ x)
 
--- x taken m times and y taken k times: both products fit, and their sum does
+-- m times x and k times y, added: both products fit, and their sum does
 unfoldable pub combination : ℤ → ℤ → ℤ → ℤ → Option ℤ
 combination m x k y = option_and_then (λ p. option_and_then (λ q. fit (p +ℤ q)) (multiple k y)) (multiple m x)
 

@@ -1,5 +1,6 @@
 //! What linear forms mean. Each law is a call without an answer: who makes the call knows the law.
 ghost use Rattle.grind_linear_forms.specs.Laws.{SumsHaveTheirValues, ReadingsHaveTheirValues, ReadingsStay, CutsStayBelow, OneCut};
+ghost use Rattle.grind_linear_forms.specs.Naming.{ReadingsNameNumbers, SumsNameNumbers, CutsNameNumbers};
 
 use grind_lemmas::{
     ceilings_bound, one_ceiling, products_associate, products_cancel, products_commute,
@@ -45,3 +46,18 @@ pub fn one_cut()
     products_cancel();
     one_ceiling();
 }
+
+/// The reading of a whole number of a table names whole numbers of it alone.
+pub fn readings_name_numbers()
+    ensures { ReadingsNameNumbers }
+{}
+
+/// A sum of multiples of forms that name whole numbers names whole numbers alone.
+pub fn sums_name_numbers()
+    ensures { SumsNameNumbers }
+{}
+
+/// A cut of a form that names whole numbers names whole numbers alone.
+pub fn cuts_name_numbers()
+    ensures { CutsNameNumbers }
+{}

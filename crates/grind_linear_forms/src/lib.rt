@@ -14,7 +14,8 @@ pub mod sum;
 pub use cutting::{cut, divides};
 pub use form::{Form, FormRefusal, Part};
 pub use laws::{
-    cuts_stay_below, one_cut, readings_have_their_values, readings_stay, sums_have_their_values,
+    cuts_name_numbers, cuts_stay_below, one_cut, readings_have_their_values, readings_name_numbers,
+    readings_stay, sums_have_their_values, sums_name_numbers,
 };
 pub use reading::linear_of;
 pub use sum::{add_scaled, scale};

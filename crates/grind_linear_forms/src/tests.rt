@@ -168,3 +168,19 @@ fn refuses_what_does_not_fit(rt: HostRuntime) -> Result<(), Fail> {
     );
     Ok(())
 }
+
+#[test]
+fn reads_a_deep_sum(rt: HostRuntime) -> Result<(), Fail> {
+    let alloc = rt.alloc();
+    let mut table = TermTable::new(alloc, 200)?;
+    let _leaf = put_leaf(alloc, &mut table);
+    for number in 2..129 {
+        let node = NodeId::new(number);
+        let _sum = put(alloc, &mut table, Head::Add, node, node);
+    }
+    let deep = read(alloc, &table, NodeId::new(128));
+    assert_eq!(rt; deep, Some(form_of(alloc, (1 << 126, 2), (0, 3), 0)));
+    let deeper = read(alloc, &table, NodeId::new(129));
+    assert_eq!(rt; deeper, Some(Err(FormRefusal::Overflow)));
+    Ok(())
+}
