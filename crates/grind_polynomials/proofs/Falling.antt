@@ -10,10 +10,10 @@ use Rattle.grind_polynomials.specs.declared.poly.Term.{Term}
 use Rattle.grind_polynomials.specs.declared.poly.PolyRefusal.{PolyRefusal}
 use Rattle.grind_polynomials.specs.declared.poly.PolyRefusal.TheVariants.{Degree}
 use Rattle.grind_polynomials.specs.Polynomials.{StartsBelow, IsPoly, is_over, fit}
-use Rattle.grind_polynomials.specs.Sums.{and_then, signed, in_front, front, behind, with_more, with_product, with_products, with_all_products}
+use Rattle.grind_polynomials.specs.Sums.{and_then, signed, in_front, front, behind, with_more, with_multiple, with_multiples, with_product, with_products, with_all_products}
 use Rattle.grind_polynomials.proofs.Fits.{ok-err, same_Ok}
 use Rattle.grind_polynomials.proofs.Putting.{more-nil, more-above, more-same, more-below}
-use Rattle.grind_polynomials.proofs.Products.{product-over, product-within, products-nil, products-cons, all-nil, all-cons}
+use Rattle.grind_polynomials.proofs.Products.{multiple-is, multiples-nil, multiples-cons, product-over, product-within, products-nil, products-cons, all-nil, all-cons}
 
 -- ---- answers
 -- an answer that is made of another
@@ -34,16 +34,20 @@ behind-made done rest all e =
     let w = made_of (λ terms. Ok (done ++ terms)) rest all e in
     (w.0, w.1, same_Ok (Ok (done ++ w.0)) (done ++ w.0) all refl w.2)
 
-pub product-made : (minus : Bool) (c : ℤ) (m : List ℕ) (b : Term) (terms all : List Term) → with_product minus c m b terms ≡ Ok all
+pub multiple-made : (minus : Bool) (c : ℤ) (m : List ℕ) (b : Term) (terms all : List Term) → with_multiple minus c m b terms ≡ Ok all
     → (number : ℤ) × (fit (c *ℤ b.coefficient) ≡ Ok number) × (with_more (signed minus number) (product m b.monomial) terms ≡ Ok all)
-product-made minus c m b terms all e = at_test (is_over (length m + length b.monomial)) refl
+multiple-made minus c m b terms all e =
+    made_of (λ number. with_more (signed minus number) (product m b.monomial) terms) (fit (c *ℤ b.coefficient)) all
+    (sym (multiple-is minus c m b terms) ∙ e)
+
+pub product-made : (q b : Term) (terms all : List Term) → with_product q b terms ≡ Ok all
+    → with_multiple false q.coefficient q.monomial b terms ≡ Ok all
+product-made q b terms all e = at_test (is_over (length q.monomial + length b.monomial)) refl
   where
-    at_test : (over : Bool) → is_over (length m + length b.monomial) ≡ over
-        → (number : ℤ) × (fit (c *ℤ b.coefficient) ≡ Ok number) × (with_more (signed minus number) (product m b.monomial) terms ≡ Ok all)
-    at_test true judged = absurd (ok-err (with_product minus c m b terms) all Degree e (product-over minus c m b terms judged))
-    at_test false judged =
-        made_of (λ number. with_more (signed minus number) (product m b.monomial) terms) (fit (c *ℤ b.coefficient)) all
-        (sym (product-within minus c m b terms judged) ∙ e)
+    at_test : (over : Bool) → is_over (length q.monomial + length b.monomial) ≡ over
+        → with_multiple false q.coefficient q.monomial b terms ≡ Ok all
+    at_test true judged = absurd (ok-err (with_product q b terms) all Degree e (product-over q b terms judged))
+    at_test false judged = sym (product-within q b terms judged) ∙ e
 
 -- ---- a term in front
 positive_is : (n : ℕ) → pos (suc n) ≡ pos 0 → ⊥
@@ -108,24 +112,33 @@ pub poly-more : (z : ℤ) (m : List ℕ) (terms all : List Term) → IsMonomial 
 poly-more z m terms all mono poly e = (keeps-more z m terms all mono poly e).poly
 
 -- ---- products
-pub poly-product : (minus : Bool) (c : ℤ) (m : List ℕ) (b : Term) (terms all : List Term) → IsMonomial m → IsMonomial b.monomial
-    → IsPoly terms → with_product minus c m b terms ≡ Ok all → IsPoly all
-poly-product minus c m b terms all mono other poly e =
-    let w = product-made minus c m b terms all e in
+pub poly-multiple : (minus : Bool) (c : ℤ) (m : List ℕ) (b : Term) (terms all : List Term) → IsMonomial m → IsMonomial b.monomial
+    → IsPoly terms → with_multiple minus c m b terms ≡ Ok all → IsPoly all
+poly-multiple minus c m b terms all mono other poly e =
+    let w = multiple-made minus c m b terms all e in
     poly-more (signed minus w.0) (product m b.monomial) terms all (rises-product m b.monomial 0 mono other) poly w.2
 
-pub poly-products : (minus : Bool) (c : ℤ) (m : List ℕ) (bs terms all : List Term) → IsMonomial m → IsPoly bs
-    → IsPoly terms → with_products minus c m bs terms ≡ Ok all → IsPoly all
-poly-products minus c m [] terms all mono others poly e =
-    subst IsPoly (same_Ok (with_products minus c m [] terms) terms all (products-nil minus c m terms) e) poly
-poly-products minus c m (b ∷ bs) terms all mono others poly e =
-    let w = made_of (with_products minus c m bs) (with_product minus c m b terms) all (sym (products-cons minus c m b bs terms) ∙ e) in
-    poly-products minus c m bs w.0 all mono others.3 (poly-product minus c m b terms w.0 mono others.0 poly w.1) w.2
+pub poly-multiples : (minus : Bool) (c : ℤ) (m : List ℕ) (bs terms all : List Term) → IsMonomial m → IsPoly bs
+    → IsPoly terms → with_multiples minus c m bs terms ≡ Ok all → IsPoly all
+poly-multiples minus c m [] terms all mono others poly e =
+    subst IsPoly (same_Ok (with_multiples minus c m [] terms) terms all (multiples-nil minus c m terms) e) poly
+poly-multiples minus c m (b ∷ bs) terms all mono others poly e =
+    let w = made_of (with_multiples minus c m bs) (with_multiple minus c m b terms) all (sym (multiples-cons minus c m b bs terms) ∙ e) in
+    poly-multiples minus c m bs w.0 all mono others.3 (poly-multiple minus c m b terms w.0 mono others.0 poly w.1) w.2
+
+pub poly-products : (q : Term) (bs terms all : List Term) → IsMonomial q.monomial → IsPoly bs
+    → IsPoly terms → with_products q bs terms ≡ Ok all → IsPoly all
+poly-products q [] terms all mono others poly e =
+    subst IsPoly (same_Ok (with_products q [] terms) terms all (products-nil q terms) e) poly
+poly-products q (b ∷ bs) terms all mono others poly e =
+    let w = made_of (with_products q bs) (with_product q b terms) all (sym (products-cons q b bs terms) ∙ e) in
+    poly-products q bs w.0 all mono others.3
+    (poly-multiple false q.coefficient q.monomial b terms w.0 mono others.0 poly (product-made q b terms w.0 w.1)) w.2
 
 pub poly-all_products : (qs bs terms all : List Term) → IsPoly qs → IsPoly bs → IsPoly terms → with_all_products qs bs terms ≡ Ok all
     → IsPoly all
 poly-all_products [] bs terms all left right poly e =
     subst IsPoly (same_Ok (with_all_products [] bs terms) terms all (all-nil bs terms) e) poly
 poly-all_products (q ∷ qs) bs terms all left right poly e =
-    let w = made_of (with_all_products qs bs) (with_products false q.coefficient q.monomial bs terms) all (sym (all-cons q qs bs terms) ∙ e) in
-    poly-all_products qs bs w.0 all left.3 right (poly-products false q.coefficient q.monomial bs terms w.0 left.0 right poly w.1) w.2
+    let w = made_of (with_all_products qs bs) (with_products q bs terms) all (sym (all-cons q qs bs terms) ∙ e) in
+    poly-all_products qs bs w.0 all left.3 right (poly-products q bs terms w.0 left.0 right poly w.1) w.2

@@ -11,12 +11,12 @@ use Rattle.grind_monomials.specs.Counts.{monomial_value}
 use Rattle.grind_monomials.proofs.Orders.{place-same}
 use Rattle.grind_monomials.proofs.ValueLemmas.{value-product as value-monomials}
 use Rattle.grind_polynomials.specs.declared.poly.Term.{Term}
-use Rattle.grind_polynomials.specs.Sums.{signed, in_front, front, with_more, with_product, with_products, with_all_products}
+use Rattle.grind_polynomials.specs.Sums.{signed, in_front, front, and_then, with_more, with_multiple, with_multiples, with_product, with_products, with_all_products}
 use Rattle.grind_polynomials.specs.Values.{poly_value}
 use Rattle.grind_polynomials.proofs.Fits.{fit_is, same_Ok}
 use Rattle.grind_polynomials.proofs.Putting.{more-nil, more-above, more-same, more-below}
-use Rattle.grind_polynomials.proofs.Products.{products-nil, products-cons, all-nil, all-cons}
-use Rattle.grind_polynomials.proofs.Falling.{made_of, front-made, behind-made, product-made}
+use Rattle.grind_polynomials.proofs.Products.{multiples-nil, multiples-cons, products-nil, products-cons, all-nil, all-cons}
+use Rattle.grind_polynomials.proofs.Falling.{made_of, front-made, behind-made, multiple-made, product-made}
 
 exchange : (a b c d : ℤ) → (a *ℤ b) *ℤ (c *ℤ d) ≡ (a *ℤ c) *ℤ (b *ℤ d)
 exchange a b c d =
@@ -71,11 +71,11 @@ module _ (v : ℕ → ℤ) where
       at_place Below below later =
           let made = value-front z m (x ∷ xs) all (sym (more-below z m x xs below) ∙ e) in omega (arith, linear)
 
-  pub value-product : (minus : Bool) (c : ℤ) (m : List ℕ) (b : Term) (terms all : List Term) → with_product minus c m b terms ≡ Ok all
+  pub value-multiple : (minus : Bool) (c : ℤ) (m : List ℕ) (b : Term) (terms all : List Term) → with_multiple minus c m b terms ≡ Ok all
       → poly_value v all ≡ poly_value v terms
       +ℤ signed minus ((c *ℤ monomial_value v m) *ℤ (b.coefficient *ℤ monomial_value v b.monomial))
-  value-product minus c m b terms all e =
-      let w = product-made minus c m b terms all e in
+  value-multiple minus c m b terms all e =
+      let w = multiple-made minus c m b terms all e in
       value-more (signed minus w.0) (product m b.monomial) terms all w.2
       ∙ ap (λ (z : ℤ). poly_value v terms +ℤ z)
       (signed-mul minus w.0 (monomial_value v (product m b.monomial))
@@ -83,15 +83,15 @@ module _ (v : ℕ → ℤ) where
       ((λ i. fit_is (c *ℤ b.coefficient) w.0 w.1 i *ℤ value-monomials v m b.monomial i)
       ∙ exchange c b.coefficient (monomial_value v m) (monomial_value v b.monomial)))
 
-  pub value-products : (minus : Bool) (c : ℤ) (m : List ℕ) (bs terms all : List Term) → with_products minus c m bs terms ≡ Ok all
+  pub value-multiples : (minus : Bool) (c : ℤ) (m : List ℕ) (bs terms all : List Term) → with_multiples minus c m bs terms ≡ Ok all
       → poly_value v all ≡ poly_value v terms +ℤ signed minus ((c *ℤ monomial_value v m) *ℤ poly_value v bs)
-  value-products minus c m [] terms all e =
-      ap (poly_value v) (sym (same_Ok (with_products minus c m [] terms) terms all (products-nil minus c m terms) e))
+  value-multiples minus c m [] terms all e =
+      ap (poly_value v) (sym (same_Ok (with_multiples minus c m [] terms) terms all (multiples-nil minus c m terms) e))
       ∙ sym (ap (λ (z : ℤ). poly_value v terms +ℤ signed minus z) (*ℤ-zero (c *ℤ monomial_value v m)) ∙ signed-zero minus (poly_value v terms))
-  value-products minus c m (b ∷ bs) terms all e =
-      let w = made_of (with_products minus c m bs) (with_product minus c m b terms) all (sym (products-cons minus c m b bs terms) ∙ e) in
-      let one = value-product minus c m b terms w.0 w.1 in
-      let rest = value-products minus c m bs w.0 all w.2 in
+  value-multiples minus c m (b ∷ bs) terms all e =
+      let w = made_of (with_multiples minus c m bs) (with_multiple minus c m b terms) all (sym (multiples-cons minus c m b bs terms) ∙ e) in
+      let one = value-multiple minus c m b terms w.0 w.1 in
+      let rest = value-multiples minus c m bs w.0 all w.2 in
       let k = c *ℤ monomial_value v m in
       let sum = ap (signed minus) (int_mul-add k (b.coefficient *ℤ monomial_value v b.monomial) (poly_value v bs))
       ∙ signed-add minus (k *ℤ (b.coefficient *ℤ monomial_value v b.monomial)) (k *ℤ poly_value v bs) in
@@ -100,14 +100,28 @@ module _ (v : ℕ → ℤ) where
       added : (all terms middle x y z : ℤ) → middle ≡ terms +ℤ x → all ≡ middle +ℤ y → z ≡ x +ℤ y → all ≡ terms +ℤ z
       added all terms middle x y z e f g = omega (arith, ints)
 
+  value-products : (q : Term) (bs terms all : List Term) → with_products q bs terms ≡ Ok all
+      → poly_value v all ≡ poly_value v terms +ℤ (q.coefficient *ℤ monomial_value v q.monomial) *ℤ poly_value v bs
+  value-products q bs terms all e =
+      value-multiples false q.coefficient q.monomial bs terms all (untested q bs terms all e)
+    where
+      untested : (q : Term) (bs terms all : List Term) → with_products q bs terms ≡ Ok all
+          → with_multiples false q.coefficient q.monomial bs terms ≡ Ok all
+      untested q [] terms all e = multiples-nil false q.coefficient q.monomial terms ∙ sym (products-nil q terms) ∙ e
+      untested q (b ∷ bs) terms all e =
+          let w = made_of (with_products q bs) (with_product q b terms) all (sym (products-cons q b bs terms) ∙ e) in
+          multiples-cons false q.coefficient q.monomial b bs terms
+          ∙ ap (and_then (with_multiples false q.coefficient q.monomial bs)) (product-made q b terms w.0 w.1)
+          ∙ untested q bs w.0 all w.2
+
   pub value-all_products : (qs bs terms all : List Term) → with_all_products qs bs terms ≡ Ok all
       → poly_value v all ≡ poly_value v terms +ℤ poly_value v qs *ℤ poly_value v bs
   value-all_products [] bs terms all e =
       ap (poly_value v) (sym (same_Ok (with_all_products [] bs terms) terms all (all-nil bs terms) e))
       ∙ sym (ap (λ (z : ℤ). poly_value v terms +ℤ z) (zero-*ℤ (poly_value v bs)) ∙ signed-zero false (poly_value v terms))
   value-all_products (q ∷ qs) bs terms all e =
-      let w = made_of (with_all_products qs bs) (with_products false q.coefficient q.monomial bs terms) all (sym (all-cons q qs bs terms) ∙ e) in
-      let one = value-products false q.coefficient q.monomial bs terms w.0 w.1 in
+      let w = made_of (with_all_products qs bs) (with_products q bs terms) all (sym (all-cons q qs bs terms) ∙ e) in
+      let one = value-products q bs terms w.0 w.1 in
       let rest = value-all_products qs bs w.0 all w.2 in
       let sum = int_add-mul (q.coefficient *ℤ monomial_value v q.monomial) (poly_value v qs) (poly_value v bs) in
       omega (arith, linear)

@@ -46,24 +46,32 @@ with_more number monomial [] = front number monomial []
 with_more number monomial (term ∷ rest) =
     more_beside (place term.monomial monomial) number monomial term rest (with_more number monomial rest)
 
--- the terms, and the product of a coefficient and a monomial with a term, added or taken off: the degree is judged
--- before the coefficient
-unfoldable pub with_product : Bool → ℤ → List ℕ → Term → List Term → Result (List Term) PolyRefusal
-with_product minus coefficient monomial b terms =
-    if is_over (length monomial + length b.monomial) then Err Degree
-    else and_then (λ number. with_more (signed minus number) (product monomial b.monomial) terms) (fit (coefficient *ℤ b.coefficient))
+-- the terms, and the product of a coefficient and a monomial with a term, added or taken off
+unfoldable pub with_multiple : Bool → ℤ → List ℕ → Term → List Term → Result (List Term) PolyRefusal
+with_multiple minus coefficient monomial b terms =
+    and_then (λ number. with_more (signed minus number) (product monomial b.monomial) terms) (fit (coefficient *ℤ b.coefficient))
 
 -- the terms, and the product with each of other terms in turn
-unfoldable pub with_products : Bool → ℤ → List ℕ → List Term → List Term → Result (List Term) PolyRefusal
-with_products minus coefficient monomial [] terms = Ok terms
-with_products minus coefficient monomial (b ∷ bs) terms =
-    and_then (with_products minus coefficient monomial bs) (with_product minus coefficient monomial b terms)
+unfoldable pub with_multiples : Bool → ℤ → List ℕ → List Term → List Term → Result (List Term) PolyRefusal
+with_multiples minus coefficient monomial [] terms = Ok terms
+with_multiples minus coefficient monomial (b ∷ bs) terms =
+    and_then (with_multiples minus coefficient monomial bs) (with_multiple minus coefficient monomial b terms)
+
+-- the terms, and the product of two terms: its degree is judged before its coefficient
+unfoldable pub with_product : Term → Term → List Term → Result (List Term) PolyRefusal
+with_product q b terms =
+    if is_over (length q.monomial + length b.monomial) then Err Degree
+    else with_multiple false q.coefficient q.monomial b terms
+
+-- the terms, and the product of a term with each of other terms in turn
+unfoldable pub with_products : Term → List Term → List Term → Result (List Term) PolyRefusal
+with_products q [] terms = Ok terms
+with_products q (b ∷ bs) terms = and_then (with_products q bs) (with_product q b terms)
 
 -- the terms, and each term of the one, in turn, times each term of the other
 unfoldable pub with_all_products : List Term → List Term → List Term → Result (List Term) PolyRefusal
 with_all_products [] bs terms = Ok terms
-with_all_products (q ∷ qs) bs terms =
-    and_then (with_all_products qs bs) (with_products false q.coefficient q.monomial bs terms)
+with_all_products (q ∷ qs) bs terms = and_then (with_all_products qs bs) (with_products q bs terms)
 
 -- the polynomial a and the product of q and b, added
 abbrev pub sum_product : List Term → List Term → List Term → Result (List Term) PolyRefusal

@@ -4,6 +4,7 @@
 #![tactic(auto)]
 
 pub mod laws;
+mod multiples;
 mod numbers;
 pub mod poly;
 mod put;

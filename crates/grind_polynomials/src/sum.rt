@@ -4,10 +4,8 @@ ghost use Rattle.grind_polynomials.specs.declared.poly.PolyRefusal.TheVariants.{
 ghost use Rattle.grind_polynomials.specs.Polynomials.{is_over};
 ghost use Rattle.grind_polynomials.specs.Sums.{with_product, with_products, with_all_products, sum_product};
 
-use crate::numbers::product_of;
+use crate::multiples::add_multiple;
 use crate::poly::{Poly, PolyRefusal, Term, copied};
-use crate::put::put;
-use grind_monomials::product;
 use grind_outside::List;
 use grind_term_graph::NodeId;
 use std::alloc::Global;
@@ -42,55 +40,54 @@ fn add_all_products(
     let mut all = terms;
     let mut rest = qs;
     while let Some((q, tail)) = rest.split_first() {
-        all = add_products(alloc, false, q.coefficient, q.monomial.as_slice(), bs, all)?;
+        all = add_products(alloc, q, bs, all)?;
         rest = tail;
     }
     Ok(all)
 }
 
-// Each product of a term with one of others, added in turn or taken off.
-pub(crate) fn add_products(
+// Each product of a term with one of others, added in turn.
+fn add_products(
     alloc: Global,
-    minus: bool,
-    coefficient: i128,
-    monomial: &[NodeId],
+    q: &Term,
     bs: &[Term],
     terms: List<Term>,
 ) -> Result<List<Term>, PolyRefusal>
-    ensures ok { IfOk result (λ all. with_products minus coefficient monomial.now bs.now terms ≡ Ok all) }
-    ensures overflow { IsErrOf result PolyRefusal.Overflow → with_products minus coefficient monomial.now bs.now terms ≡ Err Overflow }
-    ensures degree { IsErrOf result PolyRefusal.Degree → with_products minus coefficient monomial.now bs.now terms ≡ Err Degree }
+    ensures ok { IfOk result (λ all. with_products q.now bs.now terms ≡ Ok all) }
+    ensures overflow { IsErrOf result PolyRefusal.Overflow → with_products q.now bs.now terms ≡ Err Overflow }
+    ensures degree { IsErrOf result PolyRefusal.Degree → with_products q.now bs.now terms ≡ Err Degree }
 {
     let mut all = terms;
     let mut rest = bs;
     while let Some((b, tail)) = rest.split_first() {
-        all = add_one(alloc, minus, coefficient, monomial, b, all)?;
+        all = add_one(alloc, q, b, all)?;
         rest = tail;
     }
     Ok(all)
 }
 
-// The product of two terms, added or taken off.
+// The product of two terms, added.
 fn add_one(
     alloc: Global,
-    minus: bool,
-    coefficient: i128,
-    monomial: &[NodeId],
+    q: &Term,
     b: &Term,
     terms: List<Term>,
 ) -> Result<List<Term>, PolyRefusal>
-    ensures ok { IfOk result (λ all. with_product minus coefficient monomial.now b.now terms ≡ Ok all) }
-    ensures overflow { IsErrOf result PolyRefusal.Overflow → with_product minus coefficient monomial.now b.now terms ≡ Err Overflow }
-    ensures degree { IsErrOf result PolyRefusal.Degree → with_product minus coefficient monomial.now b.now terms ≡ Err Degree }
+    ensures ok { IfOk result (λ all. with_product q.now b.now terms ≡ Ok all) }
+    ensures overflow { IsErrOf result PolyRefusal.Overflow → with_product q.now b.now terms ≡ Err Overflow }
+    ensures degree { IsErrOf result PolyRefusal.Degree → with_product q.now b.now terms ≡ Err Degree }
 {
-    if is_over(monomial, b.monomial.as_slice()) {
+    if is_over(q.monomial.as_slice(), b.monomial.as_slice()) {
         return Err(PolyRefusal::Degree);
     }
-    let Some(number) = product_of(coefficient, b.coefficient) else {
-        return Err(PolyRefusal::Overflow);
-    };
-    let whole = product(alloc, monomial, b.monomial.as_slice())?;
-    let all = put(alloc, minus, number, whole, terms)?;
+    let all = add_multiple(
+        alloc,
+        false,
+        q.coefficient,
+        q.monomial.as_slice(),
+        b,
+        terms,
+    )?;
     Ok(all)
 }
 
