@@ -37,7 +37,7 @@ signed-zero false a = omega (arith, ints)
 signed-zero true a = omega (arith, ints)
 
 module _ (v : ℕ → ℤ) where
-  value-in_front : (c : ℤ) (m : List ℕ) (rest : List Term)
+  pub value-in_front : (c : ℤ) (m : List ℕ) (rest : List Term)
       → poly_value v (in_front c m rest) ≡ c *ℤ monomial_value v m +ℤ poly_value v rest
   value-in_front (pos zero) m rest =
       sym (ap (λ (z : ℤ). z +ℤ poly_value v rest) (zero-*ℤ (monomial_value v m)) ∙ +ℤ_idl (poly_value v rest))

@@ -4,12 +4,20 @@
 #![tactic(auto)]
 
 pub mod laws;
+mod marking;
 mod multiples;
 mod numbers;
+pub mod pairs;
 pub mod poly;
 mod put;
+pub mod reading;
 pub mod sum;
 
-pub use laws::sums_have_their_values;
+pub use laws::{
+    readings_have_their_values, readings_stay, s_polynomials_have_their_values,
+    sums_have_their_values,
+};
+pub use pairs::s_poly;
 pub use poly::{Poly, PolyRefusal, Term};
+pub use reading::poly_of;
 pub use sum::add_product;

@@ -1,6 +1,9 @@
 //! A polynomial.
-ghost use Rattle.std.specs.Prelude.{◌≡◌, [], IfOk};
-ghost use Rattle.grind_polynomials.specs.Polynomials.{IsPoly};
+ghost use Rattle.std.specs.Prelude.{◌≡◌, ◌≢◌, ◌<◌, ◌^◌, [], pos, IfOk};
+ghost use Rattle.grind_monomials.specs.Monomials.{IsMonomial};
+ghost use Rattle.grind_polynomials.specs.Pairs.{lead_coefficient, lead_monomial};
+ghost use Rattle.grind_polynomials.specs.Polynomials.{IsPoly, degree};
+ghost use Rattle.grind_polynomials.specs.Readings.{number_poly, node_poly};
 
 use grind_outside::{List, Memory};
 use grind_term_graph::NodeId;
@@ -83,6 +86,39 @@ impl Poly {
         self.terms.as_slice()
     }
 
+    /// The degree: that of the first monomial, and 0 where there is none.
+    pub fn degree(&self) -> usize
+        ensures value { result ≡ degree self.now }
+        ensures bound { degree self.now < 2 ^ 32 }
+    {
+        let Some((term, _)) = self.terms().split_first() else {
+            return 0;
+        };
+        term.monomial.len()
+    }
+
+    /// The first coefficient, and 0 where there is no term.
+    pub fn lead_coefficient(&self) -> i128
+        ensures value { result ≡ lead_coefficient self.now }
+        ensures nonzero { self.now ≢ [] → result ≢ pos 0 }
+    {
+        let Some((term, _)) = self.terms().split_first() else {
+            return 0;
+        };
+        term.coefficient
+    }
+
+    /// The first monomial, which is the greatest, and 1 where there is no term.
+    pub fn lead_monomial(&self) -> &[NodeId]
+        ensures value { result.now ≡ lead_monomial self.now }
+        ensures keeps { IsMonomial result.now }
+    {
+        let Some((term, _)) = self.terms().split_first() else {
+            return &[];
+        };
+        term.monomial.as_slice()
+    }
+
     /// The polynomial without terms.
     pub fn zero(alloc: Global) -> Poly
         ensures { result ≡ [] }
@@ -90,6 +126,35 @@ impl Poly {
         Poly {
             terms: List::new(alloc),
         }
+    }
+
+    /// The number as a polynomial.
+    pub fn number(alloc: Global, number: i128) -> Result<Poly, Memory>
+        ensures { IfOk result (λ poly. poly ≡ number_poly number) }
+    {
+        let mut terms = List::new(alloc);
+        if number == 0 {
+            return Ok(Poly { terms });
+        }
+        terms.push(Term {
+            coefficient: number,
+            monomial: List::new(alloc),
+        })?;
+        Ok(Poly { terms })
+    }
+
+    /// The node as a polynomial.
+    pub fn node(alloc: Global, node: NodeId) -> Result<Poly, Memory>
+        ensures { IfOk result (λ poly. poly ≡ node_poly node) }
+    {
+        let mut monomial = List::new(alloc);
+        monomial.push(node)?;
+        let mut terms = List::new(alloc);
+        terms.push(Term {
+            coefficient: 1,
+            monomial,
+        })?;
+        Ok(Poly { terms })
     }
 
     /// The same polynomial once more.

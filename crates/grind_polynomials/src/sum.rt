@@ -1,10 +1,10 @@
 //! Products of polynomials, added to others.
-ghost use Rattle.std.specs.Prelude.{◌≡◌, ◌+◌, length, Ok, Err, IfOk, IsErrOf};
+ghost use Rattle.std.specs.Prelude.{◌≡◌, ◌+◌, [], length, pos, true, false, Ok, Err, IfOk, IsErrOf};
 ghost use Rattle.grind_polynomials.specs.declared.poly.PolyRefusal.TheVariants.{Overflow, Degree};
 ghost use Rattle.grind_polynomials.specs.Polynomials.{is_over};
-ghost use Rattle.grind_polynomials.specs.Sums.{with_product, with_products, with_all_products, sum_product};
+ghost use Rattle.grind_polynomials.specs.Sums.{with_multiples, with_product, with_products, with_all_products, sum_product};
 
-use crate::multiples::add_multiple;
+use crate::multiples::{add_multiple, add_multiples};
 use crate::poly::{Poly, PolyRefusal, Term, copied};
 use grind_outside::List;
 use grind_term_graph::NodeId;
@@ -23,6 +23,27 @@ pub fn add_product(alloc: Global, a: &Poly, q: &Poly, b: &Poly) -> Result<Poly, 
 {
     let start = copied(alloc, a.terms())?;
     let terms = add_all_products(alloc, q.terms(), b.terms(), start)?;
+    Ok(Poly { terms })
+}
+
+// The sum of two polynomials.
+pub(crate) fn sum(alloc: Global, a: &Poly, b: &Poly) -> Result<Poly, PolyRefusal>
+    ensures ok { IfOk result (λ sum. with_multiples false (pos 1) [] b.now a.now ≡ Ok sum) }
+    ensures overflow { IsErrOf result PolyRefusal.Overflow → with_multiples false (pos 1) [] b.now a.now ≡ Err Overflow }
+    ensures degree { IsErrOf result PolyRefusal.Degree → ⊥ }
+{
+    let start = copied(alloc, a.terms())?;
+    let terms = add_multiples(alloc, false, 1, &[], b.terms(), start)?;
+    Ok(Poly { terms })
+}
+
+// The negation of a polynomial.
+pub(crate) fn negation(alloc: Global, a: &Poly) -> Result<Poly, PolyRefusal>
+    ensures ok { IfOk result (λ poly. with_multiples true (pos 1) [] a.now [] ≡ Ok poly) }
+    ensures overflow { IsErrOf result PolyRefusal.Overflow → with_multiples true (pos 1) [] a.now [] ≡ Err Overflow }
+    ensures degree { IsErrOf result PolyRefusal.Degree → ⊥ }
+{
+    let terms = add_multiples(alloc, true, 1, &[], a.terms(), List::new(alloc))?;
     Ok(Poly { terms })
 }
 
