@@ -44,6 +44,10 @@ nodes-one (x ∷ xs) (y ∷ ys) size e = elim (cases_order x y) [
   | inr (inr h) ↦ absurd (below-not_same (sym (more x y xs ys h) ∙ e))
 ]
 
+pub nodes-itself : (xs : List ℕ) → place_by_nodes xs xs ≡ Same
+nodes-itself [] = nodes-end [] [] refl
+nodes-itself (x ∷ xs) = same x x xs xs refl ∙ nodes-itself xs
+
 nodes-turn : (xs ys : List ℕ) → place_by_nodes xs ys ≡ Below → place_by_nodes ys xs ≡ Above
 nodes-turn [] ys e = absurd (same-not_below (sym (nodes-end [] ys refl) ∙ e))
 nodes-turn (x ∷ xs) [] e = absurd (same-not_below (sym (nodes-no_more (x ∷ xs) [] refl) ∙ e))

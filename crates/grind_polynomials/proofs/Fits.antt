@@ -1,6 +1,7 @@
 -- Numbers that fit in 128 bits, and what answers or refuses.
-use Rattle.std.proofs.Common.{◌≡◌, ◌^◌, Bool, true, false, ltb, ℤ, pos, negsuc, ◌+ℤ◌, ◌-ℤ◌, FitsSigned, Option, Some, None, Result, Ok, Err, SomeIff, MatchOption, sym, ap, ◌∙◌, refl, subst}
+use Rattle.std.proofs.Common.{◌≡◌, ◌^◌, Bool, true, false, ltb, ℤ, pos, negsuc, ◌+ℤ◌, ◌-ℤ◌, FitsSigned, to_z, Option, Some, None, Result, Ok, Err, SomeIff, MatchOption, sym, ap, ◌∙◌, refl, subst, ℕ, ◌<◌, ◌≤◌, arith}
 use Rattle.std.specs.Int.{w128}
+use borrow.Author.Differences.{ints}
 use Rattle.std.specs.Result.{is_err}
 use Rattle.std.proofs.lemmas.Bool.{cond-true, cond-false, lt-ltb, ltb-true, false_from_ne_true, false≢true}
 use Rattle.grind_polynomials.specs.declared.poly.PolyRefusal.{PolyRefusal}
@@ -70,3 +71,11 @@ fit_from (Some x) z h = subst (λ (y : ℤ). fit z ≡ Ok y) (sym h.1) (fit_in z
 
 pub minus_is : (x y : ℤ) → x -ℤ y ≡ x +ℤ signed true y
 minus_is x y = refl
+
+pub large-out : (n : ℕ) → 170141183460469231731687303715884105727 < n → fit (pos n) ≡ Err Overflow
+large-out n h = fit_out (pos n) (λ f. let below = f.sfits in omega arith)
+
+pub small-in : (n : ℕ) → n ≤ 170141183460469231731687303715884105727 → fit (pos n) ≡ Ok (to_z w128 n)
+small-in n h =
+    let is : to_z w128 n ≡ pos n = omega (arith, ints) in
+    fit_in (pos n) (record { sfits = omega arith }) ∙ ap (λ (z : ℤ). Ok z) (sym is)

@@ -6,4 +6,8 @@ pub mod SumValues
 pub mod Degrees
 pub mod ReadingLemmas
 pub mod MarkLemmas
+pub mod Divisors
 pub mod PairLemmas
+pub mod ReductionLemmas
+pub mod RankLemmas
+pub mod Descent

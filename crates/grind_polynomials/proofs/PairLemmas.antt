@@ -26,15 +26,6 @@ pub nonzero-lead : (a : List Term) → IsPoly a → a ≢ [] → lead_coefficien
 nonzero-lead [] poly some e = some refl
 nonzero-lead (term ∷ rest) poly some e = poly.1 e
 
--- a common divisor of a number that is not 0 is positive
-pub gcd-positive : (a b h : ℕ) → IsGcd a b h → (a ≡ 0 → ⊥) → 0 < h
-gcd-positive a b zero gcd some = absurd (some (eq-zero_of_zero-dvd gcd.0))
-gcd-positive a b (suc h) gcd some = omega arith
-
-pub size-nonzero : (z : ℤ) → z ≢ pos 0 → unsigned_abs z ≡ 0 → ⊥
-size-nonzero (pos n) some e = some (ap pos e)
-size-nonzero (negsuc n) some e = absurd (omega arith)
-
 module _ (a b : List Term) (h : ℕ) where
   pub s-over : is_over (length (lead_multiple a b)) ≡ true → s_polynomial h a b ≡ Err Degree
   unfolding s_polynomial

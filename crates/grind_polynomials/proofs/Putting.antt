@@ -41,7 +41,7 @@ pub behind-nil : (rest : Result (List Term) PolyRefusal) → behind [] rest ≡ 
 behind-nil (Ok terms) = refl
 behind-nil (Err e) = refl
 
-behind-step : (done : List Term) (x : Term) (rest : Result (List Term) PolyRefusal)
+pub behind-step : (done : List Term) (x : Term) (rest : Result (List Term) PolyRefusal)
     → behind done (behind (x ∷ []) rest) ≡ behind (done ++ x ∷ []) rest
 behind-step done x (Ok terms) = ap (λ (all : List Term). Ok all) (sym (append_assoc done (x ∷ []) terms))
 behind-step done x (Err e) = refl

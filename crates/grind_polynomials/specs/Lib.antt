@@ -4,4 +4,6 @@ pub mod Values
 pub mod Readings
 pub mod Marks
 pub mod Pairs
+pub mod Reduction
+pub mod Ranks
 pub mod Laws

@@ -11,6 +11,8 @@ pub mod pairs;
 pub mod poly;
 mod put;
 pub mod reading;
+pub mod reduction;
+mod scaling;
 pub mod sum;
 
 pub use laws::{
@@ -20,4 +22,5 @@ pub use laws::{
 pub use pairs::s_poly;
 pub use poly::{Poly, PolyRefusal, Term};
 pub use reading::poly_of;
+pub use reduction::Reduced;
 pub use sum::add_product;

@@ -4,7 +4,7 @@ ghost use Rattle.grind_polynomials.specs.declared.poly.PolyRefusal.TheVariants.{
 ghost use Rattle.grind_polynomials.specs.Pairs.{IsLeadGcd, s_polynomial, lead_multiple};
 
 use crate::multiples::add_multiples;
-use crate::numbers::{divided, gcd};
+use crate::numbers::{common_divisor, divided};
 use crate::poly::{Poly, PolyRefusal};
 use grind_monomials::{least_common_multiple, quotient};
 use grind_outside::{List, Memory};
@@ -54,8 +54,5 @@ fn lead_divisor(a: &Poly, b: &Poly) -> u128
     ensures divisor { IsLeadGcd a.now b.now result }
     ensures positive { 0 < result }
 {
-    gcd(
-        a.lead_coefficient().unsigned_abs(),
-        b.lead_coefficient().unsigned_abs(),
-    )
+    common_divisor(a.lead_coefficient(), b.lead_coefficient())
 }
