@@ -1,31 +1,30 @@
 -- After a step, only lesser monomials are left to reduce.
-use Rattle.std.proofs.Common.{◌≡◌, ◌≢◌, ◌⊎◌, inl, inr, ℕ, zero, suc, ◌+◌, ◌-◌, ◌<◌, Bool, true, false, List, [], ◌∷◌, ◌++◌, length, ℤ, pos, negsuc, ◌+ℤ◌, ◌*ℤ◌, neg_ℤ, unsigned_abs, Option, Some, None, Result, Ok, Err, arith, sym, ap, ◌∙◌, refl, subst}
+use Rattle.std.proofs.Common.{◌≡◌, ◌≢◌, ◌⊎◌, inl, inr, ℕ, zero, suc, ◌<◌, Bool, true, false, List, [], ◌∷◌, ℤ, pos, negsuc, ◌+ℤ◌, ◌*ℤ◌, neg_ℤ, unsigned_abs, Option, Some, None, Ok, arith, sym, ap, ◌∙◌, refl, subst}
 use Rattle.std.specs.Int.{IsGcd}
 use Rattle.std.proofs.lemmas.Bool.{cond-true, cond-false}
 use Rattle.std.proofs.lemmas.Option.{none-some, same_Some}
 use borrow.Author.Differences.{ints}
+use Rattle.grind_lemmas.proofs.Orders.{int_mul-zero_out}
 use Rattle.grind_monomials.specs.declared.order.Place.{Place}
 use Rattle.grind_monomials.specs.declared.order.Place.TheVariants.{Above, Same, Below}
-use Rattle.grind_monomials.specs.Order.{place, place_by_nodes}
+use Rattle.grind_monomials.specs.Order.{place}
 use Rattle.grind_monomials.specs.Monomials.{IsMonomial, product, quotient}
 use Rattle.grind_monomials.proofs.Clauses.{place-one}
-use Rattle.grind_monomials.proofs.Orders.{place-same, nodes-itself}
+use Rattle.grind_monomials.proofs.Orders.{nodes-itself}
 use Rattle.grind_monomials.proofs.CountLemmas.{count-product, counts-decide, rises-product, rises-quotient, product-quotient, place-product}
 use Rattle.grind_polynomials.specs.declared.poly.Term.{Term}
-use Rattle.grind_polynomials.specs.declared.poly.PolyRefusal.{PolyRefusal}
-use Rattle.grind_polynomials.specs.Polynomials.{term_of, StartsBelow, IsPoly, fit}
-use Rattle.grind_polynomials.specs.Sums.{and_then, signed, in_front, front, behind, with_more, with_multiple, with_multiples}
+use Rattle.grind_polynomials.specs.Polynomials.{StartsBelow, IsPoly, fit}
+use Rattle.grind_polynomials.specs.Sums.{signed, in_front, front, with_more, with_multiple, with_multiples}
 use Rattle.grind_polynomials.specs.Pairs.{lead_coefficient, lead_monomial}
 use Rattle.grind_polynomials.specs.declared.reduction.Reduced.{Reduced}
-use Rattle.grind_polynomials.specs.Reduction.{is_one, reducer, Target, target_of, target_or, target, IsTargetGcd, unit, weight, scaled, rest_after, StepsBy}
+use Rattle.grind_polynomials.specs.Reduction.{factor_after, is_one, reducer, Target, target_of, target, IsTargetGcd, unit, weight, scaled, rest_after, StepsBy}
 use Rattle.grind_polynomials.specs.Ranks.{IsLow, AreLow, BasisIsLow, rank, rank_of_target, left_to_do, Descends}
 use Rattle.grind_polynomials.proofs.Fits.{fit_is, same_Ok}
 use Rattle.grind_polynomials.proofs.Putting.{more-nil, more-above, more-same, more-below}
 use Rattle.grind_polynomials.proofs.Products.{multiples-nil, multiples-cons}
 use Rattle.grind_polynomials.proofs.Falling.{made_of, front-made, behind-made, multiple-made, starts-chain}
 use Rattle.grind_polynomials.proofs.Divisors.{weight-times_lead}
-use Rattle.grind_polynomials.proofs.PairLemmas.{mono-lead}
-use Rattle.grind_polynomials.proofs.ReductionLemmas.{one-empty, reducer-none, reducer-cons, target-here, target-later, target-none, scaled-nil, scaled-made, rest-made}
+use Rattle.grind_polynomials.proofs.ReductionLemmas.{unit-nonzero, one-empty, reducer-none, reducer-cons, target-here, target-later, target-none, scaled-nil, scaled-made, rest-made}
 use Rattle.grind_polynomials.proofs.RankLemmas.{low-product, low-quotient, rank-falls}
 
 -- ---- monomials
@@ -353,3 +352,13 @@ descends basis found now next found_is poly element some by = record {
             (low-target n basis next.rest f (lowered n basis_low low) is)
             (calm-target basis found.term.monomial next.rest f
             (calm-after basis found by.divisor now.rest next.rest by.divisor_is found_is poly element some by.rest_is) is) in omega arith
+
+pub factor-nonzero : (found : Target) (now next : Reduced) → IsPoly found.element → found.element ≢ [] → StepsBy found now next
+    → now.factor ≢ pos 0 → next.factor ≢ pos 0
+unfolding factor_after
+factor-nonzero found now next element some by before none =
+    let w = made_of (λ u. fit (u *ℤ now.factor)) (fit (unit found by.divisor)) next.factor by.factor_is in
+    let unit_is = fit_is (unit found by.divisor) w.0 w.1 in
+    let product_is = fit_is (w.0 *ℤ now.factor) next.factor w.2 in
+    before (int_mul-zero_out w.0 now.factor (sym product_is ∙ none)
+    (λ e. unit-nonzero found by.divisor by.divisor_is element some (sym unit_is ∙ e)))

@@ -1,9 +1,9 @@
 -- Common divisors, and the numbers that are divided by them.
-use Rattle.std.proofs.Common.{◌≡◌, ◌≢◌, ℕ, zero, suc, ◌+◌, ◌*◌, ◌/◌, ◌<◌, ◌≤◌, ◌^◌, Bool, true, false, ℤ, pos, negsuc, ◌+ℤ◌, ◌*ℤ◌, neg_ℤ, unsigned_abs, FitsSigned, arith, sym, ap, ◌∙◌, refl, subst}
-use Rattle.std.specs.Int.{w128, IsGcd, ◌∣◌}
+use Rattle.std.proofs.Common.{◌≡◌, ◌≢◌, ℕ, zero, suc, ◌*◌, ◌/◌, ◌<◌, Bool, true, false, ℤ, pos, negsuc, ◌*ℤ◌, unsigned_abs, arith, sym, ap, ◌∙◌, refl}
+use Rattle.std.specs.Int.{IsGcd, ◌∣◌}
 use Rattle.std.proofs.Math.Nat.{eq-zero_of_zero-dvd, div-mul_cancel}
 use borrow.Author.Differences.{ints}
-use Rattle.grind_lemmas.proofs.Rings.{linear, int_mul-comm, int_mul-neg, int_neg-mul}
+use Rattle.grind_lemmas.proofs.Rings.{int_mul-neg}
 use Rattle.grind_polynomials.specs.Sums.{signed}
 use Rattle.grind_polynomials.specs.Pairs.{divided_by}
 use Rattle.grind_polynomials.specs.Reduction.{is_negative}

@@ -11,3 +11,4 @@ pub mod PairLemmas
 pub mod ReductionLemmas
 pub mod RankLemmas
 pub mod Descent
+pub mod ContentLemmas

@@ -1,7 +1,5 @@
 -- The polynomial in which two leading terms cancel.
-use Rattle.std.proofs.Common.{◌≡◌, ◌≢◌, inl, inr, ℕ, zero, suc, ◌<◌, true, false, List, [], ◌∷◌, length, ℤ, pos, negsuc, ◌+ℤ◌, ◌*ℤ◌, neg_ℤ, unsigned_abs, Ok, Err, arith, sym, ap, ◌∙◌, refl}
-use Rattle.std.specs.Int.{IsGcd}
-use Rattle.std.proofs.Math.Nat.{eq-zero_of_zero-dvd}
+use Rattle.std.proofs.Common.{◌≡◌, ◌≢◌, inl, inr, ℕ, true, false, List, [], ◌∷◌, length, ℤ, pos, ◌+ℤ◌, ◌*ℤ◌, neg_ℤ, unsigned_abs, Ok, Err, arith, sym, ap, ◌∙◌, refl}
 use Rattle.std.proofs.lemmas.Bool.{cond-true, cond-false, cases_Bool}
 use Rattle.std.proofs.lemmas.Nat.Gcd.{same_from_IsGcd}
 use Rattle.grind_lemmas.proofs.Rings.{linear}

@@ -1,12 +1,12 @@
 -- The rank of a monomial falls with it.
-use Rattle.std.proofs.Common.{◌≡◌, ◌⊎◌, inl, inr, ℕ, zero, suc, ◌+◌, ◌-◌, ◌*◌, ◌<◌, ◌≤◌, List, [], ◌∷◌, length, arith, sym, ap, ◌∙◌, refl}
+use Rattle.std.proofs.Common.{◌≡◌, inl, inr, ℕ, ◌+◌, ◌-◌, ◌*◌, ◌<◌, ◌≤◌, List, [], ◌∷◌, length, arith, sym, ap, ◌∙◌, refl}
 use Rattle.std.proofs.lemmas.Bool.{cases_order}
 use Rattle.std.proofs.Math.Nat.{mul-le-mul_left, mul-le-mul_right, add-mul}
-use Rattle.grind_monomials.specs.declared.order.Place.TheVariants.{Above, Same, Below}
+use Rattle.grind_monomials.specs.declared.order.Place.TheVariants.{Above}
 use Rattle.grind_monomials.specs.Order.{place, place_by_nodes}
 use Rattle.grind_monomials.specs.Monomials.{product, quotient}
-use Rattle.grind_monomials.proofs.Clauses.{nodes-end, nodes-no_more, product-nil, product-left, product-more, product-less, quotient-nil, quotient-left, quotient-more, quotient-less, quotient-same}
-use Rattle.grind_monomials.proofs.Orders.{less, more, same, same-not_above, below-not_above, above-is}
+use Rattle.grind_monomials.proofs.Clauses.{nodes-end, product-nil, product-left, product-more, product-less, quotient-nil, quotient-left, quotient-more, quotient-less, quotient-same}
+use Rattle.grind_monomials.proofs.Orders.{more, same, same-not_above, below-not_above, above-is}
 use Rattle.grind_polynomials.specs.declared.poly.Term.{Term}
 use Rattle.grind_polynomials.specs.Ranks.{IsLow, AreLow, BasisIsLow, above_nodes, above_terms, above_basis, power, rank}
 

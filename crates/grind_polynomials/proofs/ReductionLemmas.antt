@@ -1,9 +1,7 @@
 -- The steps of a reduction, clause by clause, and that they keep polynomials.
-use Rattle.std.proofs.Common.{◌≡◌, ◌≢◌, cond, ◌⊎◌, inl, inr, ℕ, zero, suc, Bool, true, false, List, [], ◌∷◌, ◌++◌, length, ℤ, pos, negsuc, ◌+ℤ◌, ◌*ℤ◌, ◌/◌, neg_ℤ, unsigned_abs, Option, Some, None, Result, Ok, Err, arith, sym, ap, ◌∙◌, refl, subst}
+use Rattle.std.proofs.Common.{◌≡◌, ◌≢◌, cond, ℕ, true, false, List, [], ◌∷◌, ◌++◌, length, ℤ, pos, ◌*ℤ◌, unsigned_abs, Option, Some, None, Result, Ok, Err, arith, sym, ap, ◌∙◌, refl, subst}
 use Rattle.std.proofs.lemmas.Bool.{cond-true, cond-false}
 use Rattle.grind_lemmas.proofs.Orders.{int_mul-zero_out}
-use Rattle.grind_monomials.specs.declared.order.Place.TheVariants.{Above}
-use Rattle.grind_monomials.specs.Order.{place}
 use Rattle.grind_monomials.specs.Monomials.{IsMonomial, quotient}
 use Rattle.grind_monomials.proofs.CountLemmas.{rises-quotient}
 use Rattle.grind_polynomials.specs.declared.poly.Term.{Term}

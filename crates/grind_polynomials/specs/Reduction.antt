@@ -1,5 +1,5 @@
 -- The reduction of a polynomial by others.
-use Rattle.std.specs.Prelude.{◌≡◌, ◌⊎◌, ℕ, ◌/◌, List, [], ◌∷◌, All, map, Option, Some, None, Result, Ok, Err, Bool, true, false, if◌then◌else◌, ℤ, pos, negsuc, ◌*ℤ◌, unsigned_abs}
+use Rattle.std.specs.Prelude.{◌≡◌, ◌⊎◌, ℕ, ◌/◌, List, [], ◌∷◌, Option, Some, None, Result, Ok, Err, Bool, true, false, if◌then◌else◌, ℤ, pos, negsuc, ◌*ℤ◌, unsigned_abs, ⊤}
 use Rattle.std.specs.Int.{IsGcd, ◌∣◌}
 use Rattle.grind_monomials.specs.Monomials.{quotient}
 use Rattle.grind_polynomials.specs.declared.poly.Term.{Term}
@@ -107,20 +107,25 @@ pub data Reduces : List (List Term) → Reduced → Result Reduced PolyRefusal �
       → Steps basis now next → Reduces basis next answer → Reduces basis now answer
   overflow : {basis : List (List Term)} {now : Reduced} → Breaks basis now → Reduces basis now (Err Overflow)
 
--- the number divides the factor and each coefficient
-abbrev pub DividesAll : ℕ → Reduced → Type 0
-DividesAll d made = (d ∣ unsigned_abs made.factor) × All (λ (term : Term). d ∣ unsigned_abs term.coefficient) made.rest
+-- the number divides each coefficient
+abbrev pub DividesEach : ℕ → List Term → Type 0
+DividesEach d [] = ⊤
+DividesEach d (term ∷ rest) = (d ∣ unsigned_abs term.coefficient) × DividesEach d rest
 
--- the greatest common divisor of the factor and all coefficients
+-- the greatest number that divides the factor and each coefficient
 pub record IsContent (made : Reduced) (content : ℕ) : Type 0 where
-  pub divides : DividesAll content made
-  pub greatest : (d : ℕ) → DividesAll d made → d ∣ content
+  pub factor : content ∣ unsigned_abs made.factor
+  pub rest : DividesEach content made.rest
+  pub greatest : (d : ℕ) → d ∣ unsigned_abs made.factor → DividesEach d made.rest → d ∣ content
+
+-- the terms with their coefficients divided
+abbrev pub terms_by : ℕ → List Term → List Term
+terms_by content [] = []
+terms_by content (term ∷ rest) = term_of (divided_by content term.coefficient) term.monomial ∷ terms_by content rest
 
 -- the factor and the coefficients, divided
 abbrev pub reduced_by : ℕ → Reduced → Reduced
-reduced_by content made =
-    reduced_of (divided_by content made.factor)
-    (map (λ (term : Term). term_of (divided_by content term.coefficient) term.monomial) made.rest)
+reduced_by content made = reduced_of (divided_by content made.factor) (terms_by content made.rest)
 
 -- the normal form: what steps lead to, divided by the greatest common divisor of the factor and all coefficients
 pub record IsNormal (basis : List (List Term)) (p : List Term) (normal : Reduced) : Type 0 where

@@ -3,6 +3,7 @@
 //! has a degree of at most 16 where it is made, and a call says where that fails.
 #![tactic(auto)]
 
+mod content;
 pub mod laws;
 mod marking;
 mod multiples;
@@ -22,5 +23,5 @@ pub use laws::{
 pub use pairs::s_poly;
 pub use poly::{Poly, PolyRefusal, Term};
 pub use reading::poly_of;
-pub use reduction::Reduced;
+pub use reduction::{Reduced, normal};
 pub use sum::add_product;

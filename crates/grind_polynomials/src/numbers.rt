@@ -25,7 +25,7 @@ pub(crate) fn sum_of(minus: bool, x: i128, y: i128) -> Option<i128>
 }
 
 // The greatest common divisor of two numbers.
-fn gcd(a: u128, b: u128) -> u128
+pub(crate) fn gcd(a: u128, b: u128) -> u128
     ensures { IsGcd a b result }
 {
     let mut large = a;

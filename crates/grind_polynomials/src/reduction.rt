@@ -7,7 +7,8 @@ ghost use Rattle.grind_polynomials.specs.Reduction as reduction;
 ghost use Rattle.grind_polynomials.specs.Ranks.{Descends};
 
 use crate::multiples::add_multiples;
-use crate::numbers::{common_divisor, product_of, unit_of, weight_of};
+use crate::content::{content_of, divided_terms};
+use crate::numbers::{common_divisor, divided, product_of, unit_of, weight_of};
 use crate::poly::{Poly, PolyRefusal, Term};
 use crate::scaling::scale;
 use grind_monomials::{divides, quotient};
@@ -24,11 +25,33 @@ pub struct Reduced {
     pub rest: Poly,
 }
 
+/// The normal form of a polynomial by a basis.
+///
+/// # Errors
+///
+/// `Overflow` exactly where a coefficient on the way does not fit in 128 bits.
+pub fn normal(alloc: Global, p: &Poly, basis: &List<Poly>) -> Result<Reduced, PolyRefusal>
+    requires { All (λ b. b ≢ []) basis.now }
+    ensures ok { IfOk result (λ normal. reduction.IsNormal basis.now p.now normal) }
+    ensures overflow { IsErrOf result PolyRefusal.Overflow → reduction.Reduces basis.now (reduction.reduced_of (pos 1) p.now) (Err Overflow) }
+    ensures degree { IsErrOf result PolyRefusal.Degree → ⊥ }
+{
+    let made = reduce(alloc, p, basis.as_slice())?;
+    let content = content_of(&made);
+    let factor = divided(made.factor, content);
+    let terms = divided_terms(alloc, content, made.rest.terms())?;
+    Ok(Reduced {
+        factor,
+        rest: Poly { terms },
+    })
+}
+
 // The factor and the rest to which steps lead that no basis element reduces further.
 pub(crate) fn reduce(alloc: Global, p: &Poly, basis: &[Poly]) -> Result<Reduced, PolyRefusal>
     requires { All (λ b. b ≢ []) basis.now }
     ensures ok { IfOk result (λ made. reduction.Reduces basis.now (reduction.reduced_of (pos 1) p.now) (Ok made)) }
     ensures overflow { IsErrOf result PolyRefusal.Overflow → reduction.Reduces basis.now (reduction.reduced_of (pos 1) p.now) (Err Overflow) }
+    ensures nonzero { IfOk result (λ made. made.factor ≢ pos 0) }
     ensures degree { IsErrOf result PolyRefusal.Degree → ⊥ }
 {
     let rest = p.copy(alloc)?;
@@ -43,6 +66,7 @@ pub(crate) fn reduce(alloc: Global, p: &Poly, basis: &[Poly]) -> Result<Reduced,
 fn step(alloc: Global, state: &Reduced, basis: &[Poly]) -> Result<Option<Reduced>, PolyRefusal>
     requires { All (λ b. b ≢ []) basis.now }
     ensures ok { IfOk result (λ answer. MatchOption answer (reduction.target basis.now state.now.rest ≡ None) (λ next. reduction.Steps basis.now state.now next)) }
+    ensures nonzero { IfOk result (λ answer. MatchOption answer ⊤ (λ next. state.now.factor ≢ pos 0 → next.factor ≢ pos 0)) }
     ensures descends { IfOk result (λ answer. MatchOption answer ⊤ (λ next. Descends basis.now state.now.rest next.rest)) }
     ensures overflow { IsErrOf result PolyRefusal.Overflow → reduction.Breaks basis.now state.now }
     ensures degree { IsErrOf result PolyRefusal.Degree → ⊥ }

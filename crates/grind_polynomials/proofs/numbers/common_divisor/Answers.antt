@@ -1,4 +1,4 @@
-use Rattle.std.proofs.Common.{◌≡◌, ℕ, unsigned_abs, sym, ◌∙◌, subst}
+use Rattle.std.proofs.Common.{ℕ, unsigned_abs, sym, ◌∙◌, subst}
 use Rattle.std.specs.Int.{w128, IsGcd}
 use Rattle.std.proofs.lemmas.Int.{to_z-of_z}
 use Rattle.grind_polynomials.proofs.Divisors.{gcd-positive, size-nonzero}

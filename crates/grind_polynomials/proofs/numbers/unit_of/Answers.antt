@@ -1,5 +1,4 @@
-use Rattle.std.proofs.Common.{◌≡◌, ◌<◌, ◌≤◌, ◌/◌, ◌^◌, ℕ, pos, unsigned_abs, Err, Ok, FitsSigned, arith, rules, sym, ap, ◌∙◌, subst}
-use borrow.Author.Differences.{ints}
+use Rattle.std.proofs.Common.{◌<◌, ◌≤◌, ◌/◌, ℕ, pos, rules, sym, ap, ◌∙◌}
 use Rattle.std.proofs.lemmas.Int.{to_z-of_z}
 use Rattle.std.specs.Int.{w128}
 use Rattle.grind_polynomials.specs.Polynomials.{fit}

@@ -1,4 +1,4 @@
-use Rattle.std.proofs.Common.{◌≡◌, ℤ, unsigned_abs, FitsSigned, rules, subst}
+use Rattle.std.proofs.Common.{ℤ, unsigned_abs, FitsSigned, rules, subst}
 use Rattle.std.specs.Int.{w128, IsGcd}
 use Rattle.std.proofs.lemmas.Int.{to_z-of_z}
 use Rattle.grind_polynomials.specs.Pairs.{lead_coefficient}

@@ -1,4 +1,4 @@
-use Rattle.std.proofs.Common.{◌≡◌, inl, inr, ℕ, true, ℤ, pos, ◌/◌, unsigned_abs, Err, FitsSigned, IsErrOf, rules, sym, ap, ◌∙◌, subst}
+use Rattle.std.proofs.Common.{inl, inr, true, ℤ, pos, ◌/◌, unsigned_abs, FitsSigned, IsErrOf, rules, sym, ap, ◌∙◌, subst}
 use Rattle.std.specs.Int.{w128, IsGcd}
 use Rattle.std.proofs.lemmas.Int.{to_z-of_z}
 use Rattle.grind_monomials.specs.Monomials.{quotient}

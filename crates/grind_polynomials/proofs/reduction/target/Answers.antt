@@ -1,4 +1,4 @@
-use Rattle.std.proofs.Common.{◌≡◌, sym, ap, ◌∙◌, subst}
+use Rattle.std.proofs.Common.{sym, ap, ◌∙◌, subst}
 use Rattle.grind_polynomials.specs.Polynomials.{IsPoly}
 use Rattle.grind_polynomials.specs.Reduction.{reducer}
 use Rattle.grind_polynomials.proofs.ReductionLemmas.{target-here, target-later, target-none}

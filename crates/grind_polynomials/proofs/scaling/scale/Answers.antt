@@ -1,9 +1,8 @@
-use Rattle.std.proofs.Common.{◌≡◌, FitsSigned, rules, sym}
+use Rattle.std.proofs.Common.{FitsSigned, rules, sym}
 use Rattle.std.proofs.lemmas.List.{append-nil}
 use Rattle.std.specs.Int.{w128}
 use Rattle.std.proofs.lemmas.Int.{to_z-of_z}
 use Rattle.grind_polynomials.specs.declared.poly.PolyRefusal.TheVariants.{Overflow}
-use Rattle.grind_polynomials.specs.Polynomials.{term_of}
 use Rattle.grind_polynomials.specs.Reduction.{scaled}
 use Rattle.grind_polynomials.proofs.ReductionLemmas.{scale_fails, scale_step, scale_end}
 use Rattle.grind_polynomials.proofs.scaling.scale.Goals as goal
