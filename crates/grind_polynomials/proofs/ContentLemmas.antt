@@ -24,8 +24,10 @@ pub content_step : (f all size new : ℕ) (terms rest : List Term) (t : Term) (t
     → (d : ℕ) → ((d ∣ all) × DividesEach d rest) ↔ ((d ∣ f) × DividesEach d terms)
     → ((d ∣ new) × DividesEach d ts) ↔ ((d ∣ f) × DividesEach d terms)
 content_step f all size new terms rest t ts is size_is gcd d so_far = (
-  λ h. so_far.0 (dvd_trans d h.0 gcd.0,
-      subst (DividesEach d) (sym is) (subst (λ (n : ℕ). d ∣ n) size_is (dvd_trans d h.0 gcd.1), h.1)),
+  λ h. so_far.0 (
+    dvd_trans d h.0 gcd.0,
+    subst (DividesEach d) (sym is) (subst (λ (n : ℕ). d ∣ n) size_is (dvd_trans d h.0 gcd.1), h.1),
+  ),
   λ h. let back = so_far.1 h in
       let each = subst (DividesEach d) is back.1 in
       (gcd.2 d back.0 (subst (λ (n : ℕ). d ∣ n) (sym size_is) each.0), each.1),

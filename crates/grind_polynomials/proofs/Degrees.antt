@@ -27,14 +27,15 @@ within-more low high [] h within = tt
 within-more low high (term ∷ rest) h within = let first = within.0 in (omega arith, within-more low high rest h within.1)
 
 above-degree : (a b : List ℕ) → place a b ≡ Above → length b ≤ length a
-above-degree a b e = elim (above-is a b e) [ | inl h ↦ omega arith | inr h ↦ let size = h.0 in omega arith ]
+above-degree a b e = elim (above-is a b e) [ inl h ↦ omega arith | inr h ↦ let size = h.0 in omega arith ]
 
 within-starts : (m : List ℕ) (terms : List Term) → IsPoly terms → StartsBelow m terms → IsWithin (length m) terms
 unfolding IsWithin
 within-starts m [] poly starts = tt
-within-starts m (term ∷ rest) poly starts =
-    (above-degree m term.monomial starts,
-    within-more (length term.monomial) (length m) rest (above-degree m term.monomial starts) (within-starts term.monomial rest poly.3 poly.2))
+within-starts m (term ∷ rest) poly starts = (
+  above-degree m term.monomial starts,
+  within-more (length term.monomial) (length m) rest (above-degree m term.monomial starts) (within-starts term.monomial rest poly.3 poly.2),
+)
 
 within-degree : (terms : List Term) → IsPoly terms → IsWithin (degree terms) terms
 unfolding IsWithin

@@ -212,11 +212,12 @@ below-falls : (basis : List (List Term)) (m further lead : List ℕ) (bs : List 
     → product further lead ≡ m → IsPoly bs → StartsBelow lead bs → AreBelow basis m further bs
 unfolding AreBelow
 below-falls basis m further lead [] one two is poly starts = tt
-below-falls basis m further lead (b ∷ bs) one two is poly starts =
-    (ap (λ (n : List ℕ). place n (product further b.monomial)) (sym is ∙ product-turned further lead one two)
-    ∙ ap (place (product lead further)) (product-turned further b.monomial one poly.0)
-    ∙ place-product lead b.monomial further two poly.0 one starts,
-    below-falls basis m further lead bs one two is poly.3 (starts-chain lead b.monomial bs starts poly.2))
+below-falls basis m further lead (b ∷ bs) one two is poly starts = (
+  ap (λ (n : List ℕ). place n (product further b.monomial)) (sym is ∙ product-turned further lead one two)
+      ∙ ap (place (product lead further)) (product-turned further b.monomial one poly.0)
+      ∙ place-product lead b.monomial further two poly.0 one starts,
+  below-falls basis m further lead bs one two is poly.3 (starts-chain lead b.monomial bs starts poly.2),
+)
 
 vanish : (a b : ℤ) → b ≡ a → a +ℤ neg_ℤ b ≡ pos 0
 vanish a b e = omega (arith, ints)
@@ -337,6 +338,7 @@ descends basis found now next found_is poly element some by = record {
         (low-quotient n found.term.monomial (lead_monomial found.element) mono)
         (low-reducer n basis found.term.monomial found.element basis_low (is-found basis now.rest found poly found_is).by)
         (low-scaled n w.0 now.rest w.2 low w.5) w.6
+
     at_target : (n : ℕ) → BasisIsLow n basis → AreLow n now.rest → (t : Option Target) → target basis next.rest ≡ t
         → left_to_do n basis next.rest < left_to_do n basis now.rest
     at_target n basis_low low t is =

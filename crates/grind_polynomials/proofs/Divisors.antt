@@ -27,11 +27,11 @@ pub by_sign : (z : ℤ) → z ≡ signed (is_negative z) (pos (unsigned_abs z))
 by_sign (pos n) = refl
 by_sign (negsuc n) = refl
 
-divided-by_sign : (h : ℕ) (z : ℤ) → divided_by h z ≡ signed (is_negative z) (pos (unsigned_abs z / h))
+pub divided-by_sign : (h : ℕ) (z : ℤ) → divided_by h z ≡ signed (is_negative z) (pos (unsigned_abs z / h))
 divided-by_sign h (pos n) = refl
 divided-by_sign h (negsuc n) = refl
 
-mul-signed : (minus : Bool) (a b : ℤ) → a *ℤ signed minus b ≡ signed minus (a *ℤ b)
+pub mul-signed : (minus : Bool) (a b : ℤ) → a *ℤ signed minus b ≡ signed minus (a *ℤ b)
 mul-signed false a b = refl
 mul-signed true a b = int_mul-neg a b
 

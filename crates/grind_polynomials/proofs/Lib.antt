@@ -12,3 +12,4 @@ pub mod ReductionLemmas
 pub mod RankLemmas
 pub mod Descent
 pub mod ContentLemmas
+pub mod NormalLemmas

@@ -1,5 +1,5 @@
 -- What polynomials mean, over whole numbers without bound.
-use Rattle.std.specs.Prelude.{◌≡◌, ℕ, ◌<◌, List, ◌++◌, length, Some, Ok, ℤ, ◌+ℤ◌, ◌*ℤ◌, neg_ℤ}
+use Rattle.std.specs.Prelude.{◌≡◌, ℕ, ◌<◌, List, [], ◌++◌, length, Some, Result, Ok, ℤ, pos, ◌+ℤ◌, ◌*ℤ◌, neg_ℤ}
 use Rattle.grind_polynomials.specs.declared.poly.Term.{Term}
 use Rattle.grind_monomials.specs.Monomials.{quotient}
 use Rattle.grind_monomials.specs.Counts.{monomial_value}
@@ -7,8 +7,11 @@ use Rattle.grind_polynomials.specs.Pairs.{divided_by, lead_coefficient, lead_mon
 use Rattle.grind_term_graph.specs.declared.node.Node.{Node}
 use Rattle.grind_linear_forms.specs.Values.{RespectsArithmetic}
 use Rattle.grind_polynomials.specs.Readings.{polynomial}
+use Rattle.grind_polynomials.specs.declared.poly.PolyRefusal.{PolyRefusal}
+use Rattle.grind_polynomials.specs.declared.reduction.Reduced.{Reduced}
+use Rattle.grind_polynomials.specs.Reduction.{Reduces, IsNormal}
 use Rattle.grind_polynomials.specs.Sums.{sum_product}
-use Rattle.grind_polynomials.specs.Values.{poly_value}
+use Rattle.grind_polynomials.specs.Values.{poly_value, Vanishes}
 
 -- the value of a polynomial and a product is the value of the one and the product of the values of the factors
 abbrev pub SumsHaveTheirValues : Type 0
@@ -34,3 +37,20 @@ SPolynomialsHaveTheirValues =
     poly_value v poly
     ≡ ((divided_by h (lead_coefficient b) *ℤ monomial_value v (quotient (lead_multiple a b) (lead_monomial a))) *ℤ poly_value v a)
     +ℤ neg_ℤ ((divided_by h (lead_coefficient a) *ℤ monomial_value v (quotient (lead_multiple a b) (lead_monomial b))) *ℤ poly_value v b)
+
+-- where each basis element has the value 0, the factor times the polynomial has the value of the normal form's rest
+abbrev pub NormalFormsHaveTheirValues : Type 0
+NormalFormsHaveTheirValues =
+    (v : ℕ → ℤ) (basis : List (List Term)) (p : List Term) (normal : Reduced) → IsNormal basis p normal → Vanishes v basis →
+    normal.factor *ℤ poly_value v p ≡ poly_value v normal.rest
+
+-- a rest without terms has the factor 1
+abbrev pub ZeroRestsHaveFactorOne : Type 0
+ZeroRestsHaveFactorOne =
+    (basis : List (List Term)) (p : List Term) (normal : Reduced) → IsNormal basis p normal → normal.rest ≡ [] → normal.factor ≡ pos 1
+
+-- a reduction has one answer
+abbrev pub ReductionsHaveOneAnswer : Type 0
+ReductionsHaveOneAnswer =
+    (basis : List (List Term)) (now : Reduced) (one other : Result Reduced PolyRefusal) →
+    Reduces basis now one → Reduces basis now other → one ≡ other

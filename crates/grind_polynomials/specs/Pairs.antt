@@ -36,4 +36,4 @@ unfoldable pub s_polynomial : ℕ → List Term → List Term → Result (List T
 s_polynomial h a b =
     if is_over (length (lead_multiple a b)) then Err Degree
     else and_then (with_multiples true (divided_by h (lead_coefficient a)) (quotient (lead_multiple a b) (lead_monomial b)) b)
-        (with_multiples false (divided_by h (lead_coefficient b)) (quotient (lead_multiple a b) (lead_monomial a)) a [])
+    (with_multiples false (divided_by h (lead_coefficient b)) (quotient (lead_multiple a b) (lead_monomial a)) a [])

@@ -1,5 +1,5 @@
 -- The reduction of a polynomial by others.
-use Rattle.std.specs.Prelude.{◌≡◌, ◌⊎◌, ℕ, ◌/◌, List, [], ◌∷◌, Option, Some, None, Result, Ok, Err, Bool, true, false, if◌then◌else◌, ℤ, pos, negsuc, ◌*ℤ◌, unsigned_abs, ⊤}
+use Rattle.std.specs.Prelude.{◌≡◌, ◌⊎◌, ℕ, ◌/◌, ◌<◌, List, [], ◌∷◌, Option, Some, None, Result, Ok, Err, Bool, true, false, if◌then◌else◌, ℤ, pos, negsuc, ◌*ℤ◌, unsigned_abs, ⊤}
 use Rattle.std.specs.Int.{IsGcd, ◌∣◌}
 use Rattle.grind_monomials.specs.Monomials.{quotient}
 use Rattle.grind_polynomials.specs.declared.poly.Term.{Term}
@@ -69,8 +69,8 @@ scaled number (term ∷ rest) =
 unfoldable pub rest_after : Target → ℕ → List Term → Result (List Term) PolyRefusal
 rest_after found h rest =
     and_then (λ u. and_then (λ w. and_then
-        (with_multiples true w (quotient found.term.monomial (lead_monomial found.element)) found.element) (scaled u rest))
-        (fit (weight found h))) (fit (unit found h))
+    (with_multiples true w (quotient found.term.monomial (lead_monomial found.element)) found.element) (scaled u rest))
+    (fit (weight found h))) (fit (unit found h))
 
 -- the unit times the factor
 unfoldable pub factor_after : Target → ℕ → ℤ → Result ℤ PolyRefusal
@@ -133,4 +133,5 @@ pub record IsNormal (basis : List (List Term)) (p : List Term) (normal : Reduced
   pub content : ℕ
   pub made_is : Reduces basis (reduced_of (pos 1) p) (Ok made)
   pub content_is : IsContent made content
+  pub content_positive : 0 < content
   pub normal_is : normal ≡ reduced_by content made

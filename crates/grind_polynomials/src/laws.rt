@@ -20,3 +20,18 @@ pub fn readings_stay()
 pub fn s_polynomials_have_their_values()
     ensures { laws.SPolynomialsHaveTheirValues }
 {}
+
+/// Where each basis element has the value 0, the factor times the polynomial has the value of the normal form's rest.
+pub fn normal_forms_have_their_values()
+    ensures { laws.NormalFormsHaveTheirValues }
+{}
+
+/// A rest without terms has the factor 1.
+pub fn zero_rests_have_factor_one()
+    ensures { laws.ZeroRestsHaveFactorOne }
+{}
+
+/// A reduction has one answer.
+pub fn reductions_have_one_answer()
+    ensures { laws.ReductionsHaveOneAnswer }
+{}

@@ -17,8 +17,9 @@ mod scaling;
 pub mod sum;
 
 pub use laws::{
-    readings_have_their_values, readings_stay, s_polynomials_have_their_values,
-    sums_have_their_values,
+    normal_forms_have_their_values, readings_have_their_values, readings_stay,
+    reductions_have_one_answer, s_polynomials_have_their_values, sums_have_their_values,
+    zero_rests_have_factor_one,
 };
 pub use pairs::s_poly;
 pub use poly::{Poly, PolyRefusal, Term};

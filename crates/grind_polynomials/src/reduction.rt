@@ -6,8 +6,8 @@ ghost use Rattle.grind_polynomials.specs.Polynomials.{IsPoly};
 ghost use Rattle.grind_polynomials.specs.Reduction as reduction;
 ghost use Rattle.grind_polynomials.specs.Ranks.{Descends};
 
-use crate::multiples::add_multiples;
 use crate::content::{content_of, divided_terms};
+use crate::multiples::add_multiples;
 use crate::numbers::{common_divisor, divided, product_of, unit_of, weight_of};
 use crate::poly::{Poly, PolyRefusal, Term};
 use crate::scaling::scale;

@@ -88,12 +88,7 @@ fn add_products(
 }
 
 // The product of two terms, added.
-fn add_one(
-    alloc: Global,
-    q: &Term,
-    b: &Term,
-    terms: List<Term>,
-) -> Result<List<Term>, PolyRefusal>
+fn add_one(alloc: Global, q: &Term, b: &Term, terms: List<Term>) -> Result<List<Term>, PolyRefusal>
     ensures ok { IfOk result (λ all. with_product q.now b.now terms ≡ Ok all) }
     ensures overflow { IsErrOf result PolyRefusal.Overflow → with_product q.now b.now terms ≡ Err Overflow }
     ensures degree { IsErrOf result PolyRefusal.Degree → with_product q.now b.now terms ≡ Err Degree }
@@ -101,14 +96,7 @@ fn add_one(
     if is_over(q.monomial.as_slice(), b.monomial.as_slice()) {
         return Err(PolyRefusal::Degree);
     }
-    let all = add_multiple(
-        alloc,
-        false,
-        q.coefficient,
-        q.monomial.as_slice(),
-        b,
-        terms,
-    )?;
+    let all = add_multiple(alloc, false, q.coefficient, q.monomial.as_slice(), b, terms)?;
     Ok(all)
 }
 

@@ -33,7 +33,7 @@ returns-in_err-start-clause-overflow c =
     let back_first = to_z-of_z w128 c.divided-first.result fits_first in
     let told = simp (back_first, c.as_slice-3.ensures.value, c.terms.ensures.value, c.new-nothing.ensures) at c.add_multiples.ensures.overflow in
     let leads : IsErrOf c.add_multiples.result Overflow → (h : ℕ) → IsLeadGcd c.args.a.now c.args.b.now h
-        → s_polynomial h c.args.a.now c.args.b.now ≡ Err Overflow = λ e h two.
+    → s_polynomial h c.args.a.now c.args.b.now ≡ Err Overflow = λ e h two.
     s-within c.args.a.now c.args.b.now h c.lead_divisor-h.result c.divided-first.result c.divided-second.result c.in_ok-left.left c.in_ok-right.right
     c.lead_divisor-h.ensures.divisor two judged first second left right
     ∙ ap (and_then (with_multiples true c.divided-second.result c.in_ok-right.right c.args.b.now)) (told e) in search rules
@@ -59,7 +59,7 @@ returns-in_err-terms-clause-overflow c =
     let back_second = to_z-of_z w128 c.divided-second.result fits_second in
     let told = simp (back_second, c.as_slice-4.ensures.value, c.terms-2.ensures.value) at c.add_multiples-2.ensures.overflow in
     let leads : IsErrOf c.add_multiples-2.result Overflow → (h : ℕ) → IsLeadGcd c.args.a.now c.args.b.now h
-        → s_polynomial h c.args.a.now c.args.b.now ≡ Err Overflow = λ e h two.
+    → s_polynomial h c.args.a.now c.args.b.now ≡ Err Overflow = λ e h two.
     s-within c.args.a.now c.args.b.now h c.lead_divisor-h.result c.divided-first.result c.divided-second.result c.in_ok-left.left c.in_ok-right.right
     c.lead_divisor-h.ensures.divisor two judged first second left right
     ∙ ap (and_then (with_multiples true c.divided-second.result c.in_ok-right.right c.args.b.now)) started ∙ told e in search rules
