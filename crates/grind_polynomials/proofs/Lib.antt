@@ -13,3 +13,4 @@ pub mod RankLemmas
 pub mod Descent
 pub mod ContentLemmas
 pub mod NormalLemmas
+pub mod GatherLemmas

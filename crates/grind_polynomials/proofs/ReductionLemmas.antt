@@ -128,6 +128,9 @@ scaled-keeps u (t ∷ ts) all some poly e =
       starts = λ top starts. subst (StartsBelow top) w.4 starts;
     }
 
+pub poly-scaled : (u : ℤ) (terms all : List Term) → u ≢ pos 0 → IsPoly terms → scaled u terms ≡ Ok all → IsPoly all
+poly-scaled u terms all some poly e = (scaled-keeps u terms all some poly e).poly
+
 -- ---- a step
 module _ (found : Target) (h : ℕ) (rest : List Term) where
   pub rest-unit : (e : PolyRefusal) → fit (unit found h) ≡ Err e → rest_after found h rest ≡ Err e

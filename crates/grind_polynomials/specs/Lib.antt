@@ -6,4 +6,5 @@ pub mod Marks
 pub mod Pairs
 pub mod Reduction
 pub mod Ranks
+pub mod Gathering
 pub mod Laws

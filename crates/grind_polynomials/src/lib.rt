@@ -4,6 +4,8 @@
 #![tactic(auto)]
 
 mod content;
+pub mod factors;
+mod gathering;
 pub mod laws;
 mod marking;
 mod multiples;
@@ -16,6 +18,7 @@ pub mod reduction;
 mod scaling;
 pub mod sum;
 
+pub use factors::{Factors, factors_of};
 pub use laws::{
     normal_forms_have_their_values, readings_have_their_values, readings_stay,
     reductions_have_one_answer, s_polynomials_have_their_values, sums_have_their_values,

@@ -80,7 +80,7 @@ fn step(alloc: Global, state: &Reduced, basis: &[Poly]) -> Result<Option<Reduced
 }
 
 // The first of the terms that some basis element reduces, and the first such element.
-fn target<'a, 'b>(terms: &'a [Term], basis: &'b [Poly]) -> Option<(&'a Term, &'b Poly)>
+pub(crate) fn target<'a, 'b>(terms: &'a [Term], basis: &'b [Poly]) -> Option<(&'a Term, &'b Poly)>
     requires poly { IsPoly terms.now }
     requires nonzero { All (λ b. b ≢ []) basis.now }
     ensures value { MatchOption result (reduction.target basis.now terms.now ≡ None)
@@ -115,7 +115,7 @@ fn reducer<'a>(basis: &'a [Poly], monomial: &[NodeId]) -> Option<&'a Poly>
 }
 
 // The unit times the rest, less the weight and a monomial times the element, and the unit times the factor.
-fn step_by(
+pub(crate) fn step_by(
     alloc: Global,
     state: &Reduced,
     term: &Term,
