@@ -107,6 +107,7 @@ module _ (v : ℕ → ℤ) where
       opened t is =
           ap (λ (h : Bool). before (factor_moved move h b q) (factors_moved move (not h) bs qs)) (sym is)
           ∙ sym (moved-cons move true b q bs qs) ∙ e
+
       at_test : (t : Bool) → is_one (quotient (lead_monomial b) move.monomial) ≡ t
           → ((others : List (List Term)) → reducer bs move.monomial ≡ Some element → factors_moved move true bs qs ≡ Ok others
           → IsTimes move bs qs others (more_of move element))
@@ -201,13 +202,16 @@ module _ (v : ℕ → ℤ) where
       ap (signed minus) times.value
       ∙ signed-sum minus (u *ℤ products_value v basis qs) ((signed minus (weight found by.divisor) *ℤ m) *ℤ b)
       ∙ (λ i. signed-times minus u (products_value v basis qs) i +ℤ turned i) in
-      let sum = ap (λ (z : ℤ). u *ℤ z) so_far ∙ int_mul-add u (poly_value v now.rest) (signed minus (products_value v basis qs)) in
-      (closing (next.factor *ℤ x) (u *ℤ (now.factor *ℤ x)) (u *ℤ poly_value v now.rest) (u *ℤ signed minus (products_value v basis qs))
-      (poly_value v next.rest) (poly_value v w.2) ((w.1 *ℤ m) *ℤ b) ((weight found by.divisor *ℤ m) *ℤ b) (signed minus (products_value v basis more))
-      factor sum start rest taken products, times.size)
+      let sum = ap (λ (z : ℤ). u *ℤ z) so_far ∙ int_mul-add u (poly_value v now.rest) (signed minus (products_value v basis qs)) in (
+        closing (next.factor *ℤ x) (u *ℤ (now.factor *ℤ x)) (u *ℤ poly_value v now.rest) (u *ℤ signed minus (products_value v basis qs))
+            (poly_value v next.rest) (poly_value v w.2) ((w.1 *ℤ m) *ℤ b) ((weight found by.divisor *ℤ m) *ℤ b) (signed minus (products_value v basis more))
+            factor sum start rest taken products,
+        times.size,
+      )
     where
       cancelled : (r s c : ℤ) → (r +ℤ neg_ℤ c) +ℤ (s +ℤ c) ≡ r +ℤ s
       cancelled r s c = omega (arith, ints)
+
       closing : (f g r s n start a c products : ℤ) → f ≡ g → g ≡ r +ℤ s → start ≡ r → n ≡ start +ℤ neg_ℤ a → a ≡ c → products ≡ s +ℤ c
           → f ≡ n +ℤ products
       closing f g r s n start a c products e1 e2 e3 e4 e5 e6 =
@@ -298,20 +302,25 @@ module _ (v : ℕ → ℤ) where
         (subst (λ (minus : Bool). Gathers basis minus (reduced_of (pos 1) p) (no_factors basis) (Ok one.gathered)) has one.gathered_is) in
         let is : factors ≡ factors_by one.made one.content one.gathered false =
         one.factors_are ∙ ap (factors_by one.made one.content one.gathered) has in
-        let empty : poly_value v one.made.rest ≡ pos 0 = ap (poly_value v) (by-empty two.content one.made.rest (sym rest_is ∙ none)) in
-        (ap (λ (f : Factors). f.own) is,
-        ap (λ (f : Factors). f.divisor *ℤ poly_value v p) is
-        ∙ whole (one.made.factor *ℤ poly_value v p) (poly_value v one.made.rest) (products_value v basis one.gathered) holds empty
-        ∙ sym (ap (λ (f : Factors). products_value v basis f.list) is)),
+        let empty : poly_value v one.made.rest ≡ pos 0 = ap (poly_value v) (by-empty two.content one.made.rest (sym rest_is ∙ none)) in (
+          ap (λ (f : Factors). f.own) is,
+          ap (λ (f : Factors). f.divisor *ℤ poly_value v p) is
+              ∙ whole (one.made.factor *ℤ poly_value v p) (poly_value v one.made.rest) (products_value v basis one.gathered) holds empty
+              ∙ sym (ap (λ (f : Factors). products_value v basis f.list) is),
+        ),
   )
     where
       made_same : two.made ≡ one.made
       made_same = same_Ok (Ok two.made) two.made one.made refl (reduces-one basis (reduced_of (pos 1) p) (Ok two.made) (Ok one.made) two.made_is one.made_is)
+
       rest_is : normal.rest ≡ terms_by two.content one.made.rest
       rest_is = ap (λ (r : Reduced). r.rest) two.normal_is ∙ ap (λ (r : Reduced). terms_by two.content r.rest) made_same
+
       contents : two.content ≡ one.content
       contents = same-content one.made two.content one.content (subst (λ (r : Reduced). IsContent r two.content) made_same two.content_is) one.content_is
+
       turned : (a r s : ℤ) → a ≡ r +ℤ neg_ℤ s → r ≡ a +ℤ s
       turned a r s e = omega (arith, ints)
+
       whole : (a r s : ℤ) → a ≡ r +ℤ s → r ≡ pos 0 → a ≡ s
       whole a r s e f = omega (arith, ints)
