@@ -14,3 +14,4 @@ pub mod Descent
 pub mod ContentLemmas
 pub mod NormalLemmas
 pub mod GatherLemmas
+pub mod FactorLemmas

@@ -26,7 +26,7 @@ use Rattle.grind_polynomials.proofs.SumValues.{value-multiples}
 use Rattle.grind_polynomials.proofs.Divisors.{by_sign, divided-by_sign, mul-signed}
 use Rattle.grind_polynomials.proofs.ReductionLemmas.{reducer-none, reducer-cons, target-none, target-here, target-later, scaled-nil, scaled-made, rest-made}
 
-factor-made : (found : Target) (h : ℕ) (factor next : ℤ) → factor_after found h factor ≡ Ok next → next ≡ unit found h *ℤ factor
+pub factor-made : (found : Target) (h : ℕ) (factor next : ℤ) → factor_after found h factor ≡ Ok next → next ≡ unit found h *ℤ factor
 unfolding factor_after
 factor-made found h factor next e =
     let w = made_of (λ u. fit (u *ℤ factor)) (fit (unit found h)) next e in
@@ -62,7 +62,7 @@ module _ (v : ℕ → ℤ) where
           (sym (same_Some (target_of t b) found (sym (target-here basis t ts (t ∷ ts) b refl some) ∙ e)))
           ∙ vanishes-reducer basis t.monomial b zero_all some
 
-  value-scaled : (u : ℤ) (terms all : List Term) → scaled u terms ≡ Ok all → poly_value v all ≡ u *ℤ poly_value v terms
+  pub value-scaled : (u : ℤ) (terms all : List Term) → scaled u terms ≡ Ok all → poly_value v all ≡ u *ℤ poly_value v terms
   value-scaled u [] all e = ap (poly_value v) (sym (same_Ok (scaled u []) [] all (scaled-nil u) e)) ∙ sym (*ℤ-zero u)
   value-scaled u (t ∷ ts) all e =
       let w = scaled-made u t ts all e in
@@ -115,7 +115,7 @@ module _ (v : ℕ → ℤ) where
       turned : (a b : ℕ) → a * b ≡ b * a
       turned a b = grind arith
 
-  value-by : (h : ℕ) (terms : List Term) → DividesEach h terms → pos h *ℤ poly_value v (terms_by h terms) ≡ poly_value v terms
+  pub value-by : (h : ℕ) (terms : List Term) → DividesEach h terms → pos h *ℤ poly_value v (terms_by h terms) ≡ poly_value v terms
   value-by h [] divides = *ℤ-zero (pos h)
   value-by h (t ∷ ts) divides =
       let rest = value-by h ts divides.1 in
@@ -142,7 +142,7 @@ module _ (v : ℕ → ℤ) where
       positive-nonzero g h e = absurd (omega (arith, ints))
 
 -- ---- one answer
-step-one : (basis : List (List Term)) (now next other : Reduced) → Steps basis now next → Steps basis now other → next ≡ other
+pub step-one : (basis : List (List Term)) (now next other : Reduced) → Steps basis now next → Steps basis now other → next ≡ other
 step-one basis now next other one two =
     let found : one.found ≡ two.found = same_Some one.found two.found (sym one.found_is ∙ two.found_is) in
     let divisor : one.step_is.divisor ≡ two.step_is.divisor = same_from_IsGcd _ _ one.step_is.divisor two.step_is.divisor one.step_is.divisor_is

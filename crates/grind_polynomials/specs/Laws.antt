@@ -1,5 +1,5 @@
 -- What polynomials mean, over whole numbers without bound.
-use Rattle.std.specs.Prelude.{◌≡◌, ℕ, ◌<◌, List, [], ◌++◌, length, Some, Result, Ok, ℤ, pos, ◌+ℤ◌, ◌*ℤ◌, neg_ℤ}
+use Rattle.std.specs.Prelude.{◌≡◌, ◌≢◌, ℕ, ◌<◌, List, [], ◌++◌, length, Some, Result, Ok, ℤ, pos, ◌+ℤ◌, ◌*ℤ◌, neg_ℤ}
 use Rattle.grind_polynomials.specs.declared.poly.Term.{Term}
 use Rattle.grind_monomials.specs.Monomials.{quotient}
 use Rattle.grind_monomials.specs.Counts.{monomial_value}
@@ -10,6 +10,8 @@ use Rattle.grind_polynomials.specs.Readings.{polynomial}
 use Rattle.grind_polynomials.specs.declared.poly.PolyRefusal.{PolyRefusal}
 use Rattle.grind_polynomials.specs.declared.reduction.Reduced.{Reduced}
 use Rattle.grind_polynomials.specs.Reduction.{Reduces, IsNormal}
+use Rattle.grind_polynomials.specs.declared.factors.Factors.{Factors}
+use Rattle.grind_polynomials.specs.Gathering.{IsFactors, products_value}
 use Rattle.grind_polynomials.specs.Sums.{sum_product}
 use Rattle.grind_polynomials.specs.Values.{poly_value, Vanishes}
 
@@ -54,3 +56,13 @@ abbrev pub ReductionsHaveOneAnswer : Type 0
 ReductionsHaveOneAnswer =
     (basis : List (List Term)) (now : Reduced) (one other : Result Reduced PolyRefusal) →
     Reduces basis now one → Reduces basis now other → one ≡ other
+
+-- what factors are for: where there is a rest, the divisor times the rest is `own` times the polynomial and the sum of the
+-- products; else `own` is 0, and the divisor times the polynomial is the sum of the products
+abbrev pub FactorsHaveTheirValues : Type 0
+FactorsHaveTheirValues =
+    (v : ℕ → ℤ) (basis : List (List Term)) (p : List Term) (factors : Factors) (normal : Reduced) →
+    IsFactors basis p factors → IsNormal basis p normal →
+    (normal.rest ≢ [] → factors.divisor *ℤ poly_value v normal.rest
+    ≡ (factors.own *ℤ poly_value v p) +ℤ products_value v basis factors.list)
+    × (normal.rest ≡ [] → (factors.own ≡ pos 0) × (factors.divisor *ℤ poly_value v p ≡ products_value v basis factors.list))

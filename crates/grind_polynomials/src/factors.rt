@@ -64,12 +64,7 @@ struct Gathered {
 }
 
 // The factors to which the steps lead.
-fn gather(
-    alloc: Global,
-    minus: bool,
-    p: &Poly,
-    basis: &[Poly],
-) -> Result<List<Poly>, PolyRefusal>
+fn gather(alloc: Global, minus: bool, p: &Poly, basis: &[Poly]) -> Result<List<Poly>, PolyRefusal>
     requires { All (λ b. b ≢ []) basis.now }
     ensures ok { IfOk result (λ list. gathering.Gathers basis.now minus (reduced_of (pos 1) p.now) (gathering.no_factors basis.now) (Ok list)) }
     ensures overflow { IsErrOf result PolyRefusal.Overflow → Reduces basis.now (reduced_of (pos 1) p.now) (Err Overflow)

@@ -35,3 +35,9 @@ pub fn zero_rests_have_factor_one()
 pub fn reductions_have_one_answer()
     ensures { laws.ReductionsHaveOneAnswer }
 {}
+
+/// What factors are for: where there is a rest, the divisor times the rest is `own` times the polynomial and the sum of
+/// the products; else `own` is 0, and the divisor times the polynomial is the sum of the products.
+pub fn factors_have_their_values()
+    ensures { laws.FactorsHaveTheirValues }
+{}

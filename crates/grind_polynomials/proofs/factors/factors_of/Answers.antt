@@ -14,6 +14,8 @@ returns-then-content-gt170141183460469231731687303715884105727-clause-overflow c
       made_is = subst (λ (basis : List (List Term)). Reduces basis (reduced_of (pos 1) c.args.p.now) (Ok c.in_ok-made.made))
           c.as_slice.ensures.value c.in_ok-made.ensures.ok;
       content_is = c.content_of-content.ensures.content;
-      refused = inr (has-some c.in_ok-made.made.rest (subst (λ (terms : List Term). 0 < length terms) c.terms.ensures.value some),
-          large-out c.content_of-content.result c.if-content-gt170141183460469231731687303715884105727.true);
+      refused = inr (
+        has-some c.in_ok-made.made.rest (subst (λ (terms : List Term). 0 < length terms) c.terms.ensures.value some),
+        large-out c.content_of-content.result c.if-content-gt170141183460469231731687303715884105727.true,
+      );
     })

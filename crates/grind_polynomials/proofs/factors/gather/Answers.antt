@@ -21,7 +21,7 @@ loop-now-init c = record {
 pub returns-in_err-next-clause-overflow : goal.returns-in_err-next-clause-overflow
 returns-in_err-next-clause-overflow c =
     let leads : IsErrOf c.gather_step.result Overflow → Reduces c.args.basis.now (reduced_of (pos 1) c.args.p.now) (Err Overflow)
-        ⊎ Gathers c.args.basis.now c.args.minus (reduced_of (pos 1) c.args.p.now) (no_factors c.args.basis.now) (Err Overflow) = λ e.
+    ⊎ Gathers c.args.basis.now c.args.minus (reduced_of (pos 1) c.args.p.now) (no_factors c.args.basis.now) (Err Overflow) = λ e.
     elim (c.gather_step.ensures.overflow e) [
       | inl breaks ↦ inl (c.loop-now.invariant.leads (Err Overflow) (overflow breaks))
       | inr spills ↦ inr (c.loop-now.invariant.gathers (Err Overflow) (spilt spills))

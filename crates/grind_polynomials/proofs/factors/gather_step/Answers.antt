@@ -78,7 +78,7 @@ returns-in_err-list-clause-overflow c =
     gcd c.in_ok-state.ensures.ok.divisor_is unit weight refl in
     let told = simp (back_unit, back_weight, c.as_slice-monomial.ensures.value, c.as_slice.ensures.value) at c.moved_factors.ensures.overflow in
     let leads : IsErrOf c.moved_factors.result Overflow → Breaks c.args.basis.now c.args.now.now.state
-        ⊎ SpillsWith c.args.minus c.args.basis.now c.args.now.now.state c.args.now.now.list = λ e.
+    ⊎ SpillsWith c.args.minus c.args.basis.now c.args.now.now.state c.args.now.now.list = λ e.
     inr (record { next = c.in_ok-state.state; steps = record { found = target_of c.in-Some.term.now c.in-Some.element.now; found_is = found_is; step_is = c.in_ok-state.ensures.ok }; refused = ap (λ (move : Move). factors_moved move true c.args.basis.now c.args.now.now.list) (sym same) ∙ told e }) in search rules
 
 pub returns-clause-ok : goal.returns-clause-ok
