@@ -15,6 +15,8 @@ FILES = {
     "grind_lemmas": None,
     "grind_term_graph": ["Terms", "Shape", "Placed"],
     "grind_linear_forms": None,
+    "grind_monomials": None,
+    "grind_polynomials": None,
     "grind_classes": ["Classes"],
     "grind_congruence": ["Derivable", "Congruence", "Edges", "Exact", "Asserted"],
     "grind_schemes": ["Labels", "Goals", "Limits", "Schemes", "Theorems", "Instances", "Laws"],

@@ -1,0 +1,17 @@
+pub mod Fits
+pub mod Putting
+pub mod Products
+pub mod Falling
+pub mod SumValues
+pub mod Degrees
+pub mod ReadingLemmas
+pub mod MarkLemmas
+pub mod Divisors
+pub mod PairLemmas
+pub mod ReductionLemmas
+pub mod RankLemmas
+pub mod Descent
+pub mod ContentLemmas
+pub mod NormalLemmas
+pub mod GatherLemmas
+pub mod FactorLemmas
