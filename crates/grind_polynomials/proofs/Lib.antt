@@ -1,0 +1,9 @@
+pub mod Fits
+pub mod Putting
+pub mod Products
+pub mod Falling
+pub mod SumValues
+pub mod Degrees
+pub mod ReadingLemmas
+pub mod MarkLemmas
+pub mod PairLemmas

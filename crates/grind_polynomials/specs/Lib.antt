@@ -1,0 +1,7 @@
+pub mod Polynomials
+pub mod Sums
+pub mod Values
+pub mod Readings
+pub mod Marks
+pub mod Pairs
+pub mod Laws

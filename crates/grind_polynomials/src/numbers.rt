@@ -1,0 +1,61 @@
+//! Products, sums and quotients of numbers of 128 bits.
+ghost use Rattle.std.specs.Prelude.{◌≡◌, ◌<◌, ◌≤◌, ◌/◌, pos, ◌*ℤ◌, ◌+ℤ◌, unsigned_abs, Ok, Err, MatchOption};
+ghost use Rattle.std.specs.Int.{IsGcd};
+ghost use Rattle.grind_polynomials.specs.Pairs.{divided_by};
+ghost use Rattle.grind_polynomials.specs.declared.poly.PolyRefusal.TheVariants.{Overflow};
+ghost use Rattle.grind_polynomials.specs.Polynomials.{fit};
+ghost use Rattle.grind_polynomials.specs.Sums.{signed};
+
+// The product of two numbers, where it fits.
+pub(crate) fn product_of(x: i128, y: i128) -> Option<i128>
+    ensures { MatchOption result (fit (x *ℤ y) ≡ Err Overflow) (λ z. fit (x *ℤ y) ≡ Ok z) }
+{
+    x.checked_mul(y)
+}
+
+// The sum of two numbers, or their difference, where it fits.
+pub(crate) fn sum_of(minus: bool, x: i128, y: i128) -> Option<i128>
+    ensures { MatchOption result (fit (x +ℤ signed minus y) ≡ Err Overflow) (λ z. fit (x +ℤ signed minus y) ≡ Ok z) }
+{
+    if minus {
+        return x.checked_sub(y);
+    }
+    x.checked_add(y)
+}
+
+// The greatest common divisor of two numbers.
+pub(crate) fn gcd(a: u128, b: u128) -> u128
+    ensures { IsGcd a b result }
+{
+    let mut large = a;
+    let mut small = b;
+    while small > 0 {
+        let next = large % small;
+        large = small;
+        small = next;
+    }
+    large
+}
+
+// A number divided by a positive one, rounded toward 0.
+pub(crate) fn divided(number: i128, divisor: u128) -> i128
+    requires { 0 < divisor }
+    ensures { result ≡ divided_by divisor number }
+{
+    if divisor == 1 {
+        return number;
+    }
+    let size = magnitude(number, divisor);
+    if number < 0 {
+        return -size;
+    }
+    size
+}
+
+// How large the quotient of a number by another is, which is at least 2.
+fn magnitude(number: i128, divisor: u128) -> i128
+    requires { 2 ≤ divisor }
+    ensures { result ≡ pos (unsigned_abs number / divisor) }
+{
+    (number.unsigned_abs() / divisor) as i128
+}
