@@ -1,5 +1,5 @@
 -- What stays where lists grow behind.
-use Rattle.std.proofs.Common.{◌≡◌, ℕ, ◌<◌, ◌++◌, List, [], ◌∷◌, Some, IsSome, suc, zero, length, refl, sym, ◌∙◌, arith}
+use Rattle.std.proofs.Common.{◌≡◌, ℕ, ◌<◌, ◌++◌, List, [], ◌∷◌, Option, Some, None, IsSome, suc, zero, length, refl, sym, ◌∙◌, arith}
 use Rattle.std.specs.Prelude.{slice_get}
 use Rattle.std.specs.Option.{IsSomeAnd, option_map}
 use Rattle.grind_term_graph.specs.declared.node.Node.{Node}
@@ -14,6 +14,11 @@ pub some_and_stays : {X : Type 0} (P : X → Type 0) (xs ys : List X) (i : ℕ) 
 some_and_stays P [] ys i h = absurd h
 some_and_stays P (x ∷ xs) ys zero h = h
 some_and_stays P (x ∷ xs) ys (suc i) h = some_and_stays P xs ys i h
+
+-- what follows from what holds of an item
+pub some_and_then : {X : Type 0} (P Q : X → Type 0) (o : Option X) → ((x : X) → P x → Q x) → IsSomeAnd o P → IsSomeAnd o Q
+some_and_then P Q None f h = h
+some_and_then P Q (Some x) f h = f x h
 
 -- a field of an item that stands there stays what it is
 pub field_is_still : {X Y : Type 0} (f : X → Y) (xs ys : List X) (i : ℕ) (y : Y) →

@@ -16,9 +16,9 @@ use Rattle.grind_proof_kernel.specs.Claims.{claims_at}
 use Rattle.grind_proof_kernel.specs.Rules.{Says}
 use Rattle.grind_proof_kernel.specs.Typing.{IsTypedAs, literal_of, appended}
 use Rattle.grind_proof_kernel.specs.Laws.{Extends, TypedLinesStay, TypedNextLine, IsPremiseCount, TypedLinesCount}
-use Rattle.grind_proof_kernel.proofs.Growth.{some_and_stays, formed_stays}
+use Rattle.grind_proof_kernel.proofs.Growth.{some_and_stays, some_and_then, formed_stays}
 use Rattle.grind_proof_kernel.proofs.RuleGrowth.{says_stays}
-use Rattle.grind_proof_kernel.proofs.BranchGrowth.{is_branch_stays, literal_stays, some_and_then, serves_stays, claims_stay}
+use Rattle.grind_proof_kernel.proofs.BranchGrowth.{is_branch_stays, literal_stays, serves_stays, claims_stay}
 
 -- a line stays typed as it is
 typed_as_stays : (lemmas : Lemmas) (goal : GoalData) (old new : Proof) (i : ℕ) (line : Line) →
@@ -35,7 +35,7 @@ typed_as_stays lemmas goal old new i line grown h =
       premises = rw (branches.1, lines.1) (All-weaker _ _
           (λ p. serves_stays old.branches branches.0 old.lines lines.0 i line.branch p) line.premises h.premises);
       rule = rw (nodes.1, branches.1, lines.1, claims, literal)
-          (says_stays goal old.terms.nodes nodes.0 (literal_of old.branches line.branch) line.rule _ line.claim h.rule);
+          (says_stays lemmas goal old.terms.nodes nodes.0 (literal_of old.branches line.branch) line.rule _ line.claim h.rule);
     }
 
 pub typed_lines_stay_lem : TypedLinesStay
@@ -71,22 +71,23 @@ some_length [] h = absurd (h refl)
 some_length (x ∷ xs) h = omega arith
 
 -- a rule fixes how many premises there are
-says_counts : (goal : GoalData) (nodes : List Node) (literal : Option Claim) (how : Rule) (premises : List (Option Claim)) (claim : Claim) →
-    Says goal nodes literal how premises claim → IsPremiseCount how (length premises)
-says_counts goal nodes literal (rule.Hyp i) premises claim h = ap length h.4
-says_counts goal nodes literal rule.Negated premises claim h = ap length h.0
-says_counts goal nodes literal rule.Branch premises claim h = ap length h.0
-says_counts goal nodes literal rule.Refl premises claim h = ap length h.1
-says_counts goal nodes literal rule.Sym premises claim h = ap length h.2
-says_counts goal nodes literal rule.Trans premises claim h = ap length h.3
-says_counts goal nodes literal rule.Cong premises claim h = some_length premises h.9
-says_counts goal nodes literal rule.Eq premises claim h = elim h.4 [ inl e ↦ ap length e.0 | inr e ↦ ap length e.0 ]
-says_counts goal nodes literal rule.Back premises claim h = elim h.4 [ inl e ↦ ap length e.0 | inr e ↦ ap length e.0 ]
-says_counts goal nodes literal rule.Truth premises claim h = elim h.1 [ inl e ↦ ap length e.0 | inr e ↦ ap length e.0 ]
-says_counts goal nodes literal rule.Untruth premises claim h = elim h.1 [ inl e ↦ ap length e.0 | inr e ↦ ap length e.0 ]
-says_counts goal nodes literal (rule.Table free) premises claim h = tt
-says_counts goal nodes literal rule.Apart premises claim h = ap length h.4
-says_counts goal nodes literal rule.Clash premises claim h = elim h.1 [
+says_counts : (lemmas : Lemmas) (goal : GoalData) (nodes : List Node) (literal : Option Claim) (how : Rule) (premises : List (Option Claim)) (claim : Claim) →
+    Says lemmas goal nodes literal how premises claim → IsPremiseCount how (length premises)
+says_counts lemmas goal nodes literal (rule.Hyp i) premises claim h = ap length h.4
+says_counts lemmas goal nodes literal rule.Negated premises claim h = ap length h.0
+says_counts lemmas goal nodes literal (rule.Inst t subst) premises claim h = ap length h.2
+says_counts lemmas goal nodes literal rule.Branch premises claim h = ap length h.0
+says_counts lemmas goal nodes literal rule.Refl premises claim h = ap length h.1
+says_counts lemmas goal nodes literal rule.Sym premises claim h = ap length h.2
+says_counts lemmas goal nodes literal rule.Trans premises claim h = ap length h.3
+says_counts lemmas goal nodes literal rule.Cong premises claim h = some_length premises h.9
+says_counts lemmas goal nodes literal rule.Eq premises claim h = elim h.4 [ inl e ↦ ap length e.0 | inr e ↦ ap length e.0 ]
+says_counts lemmas goal nodes literal rule.Back premises claim h = elim h.4 [ inl e ↦ ap length e.0 | inr e ↦ ap length e.0 ]
+says_counts lemmas goal nodes literal rule.Truth premises claim h = elim h.1 [ inl e ↦ ap length e.0 | inr e ↦ ap length e.0 ]
+says_counts lemmas goal nodes literal rule.Untruth premises claim h = elim h.1 [ inl e ↦ ap length e.0 | inr e ↦ ap length e.0 ]
+says_counts lemmas goal nodes literal (rule.Table free) premises claim h = tt
+says_counts lemmas goal nodes literal rule.Apart premises claim h = ap length h.4
+says_counts lemmas goal nodes literal rule.Clash premises claim h = elim h.1 [
   | inl two ↦ inr (elim two.2 [ inl e ↦ ap length e | inr e ↦ ap length e ])
   | inr lone ↦ inl (ap length lone.1)
 ]
@@ -95,4 +96,4 @@ pub typed_lines_count_lem : TypedLinesCount
 typed_lines_count_lem lemmas goal proof i h =
     some_and_then (IsTypedAs lemmas goal proof i) (λ (line : Line). IsPremiseCount line.rule (length line.premises))
     (slice_get proof.lines i)
-    (λ line typed. rw (← length_claims proof.lines line.premises) (says_counts goal _ _ line.rule _ line.claim typed.rule)) h
+    (λ line typed. rw (← length_claims proof.lines line.premises) (says_counts lemmas goal _ _ line.rule _ line.claim typed.rule)) h

@@ -1,5 +1,6 @@
 pub mod Premises
 pub mod RuleLemmas
+pub mod InstanceWalks
 pub mod Growth
 pub mod TableGrowth
 pub mod RuleGrowth

@@ -1,11 +1,16 @@
 -- What a rule lets a line claim stays so where terms are put behind the others.
-use Rattle.std.proofs.Common.{ℕ, Option, ◌++◌, List, inl, inr}
+use Rattle.std.proofs.Common.{ℕ, Option, ◌++◌, List, inl, inr, refl}
+use Rattle.std.specs.Prelude.{slice_get}
 use Rattle.grind_term_graph.specs.declared.node.Node.{Node}
+use Rattle.grind_schemes.specs.Theorems.{TheoremData}
+use Rattle.grind_schemes.specs.declared.lemmas.Lemmas.{Lemmas}
+use Rattle.grind_schemes.proofs.InstanceLemmas.{IsSubstitution-grows}
+use Rattle.grind_schemes.proofs.InstanceLaws.{IsInstance-grows}
 use Rattle.grind_proof_kernel.specs.declared.claim.Claim.{Claim}
 use Rattle.grind_proof_kernel.specs.declared.proof.Rule.TheVariants as rules
-use Rattle.grind_proof_kernel.specs.Rules.{IsEquationOf, IsCong, IsEq, IsBack, AreTwoNumbers, IsImpossible, IsClash}
+use Rattle.grind_proof_kernel.specs.Rules.{IsBodyAt, IsInst, IsEquationOf, IsCong, IsEq, IsBack, AreTwoNumbers, IsImpossible, IsClash}
 use Rattle.grind_proof_kernel.specs.Laws.{SaysStays}
-use Rattle.grind_proof_kernel.proofs.Growth.{some_and_stays, item_stays}
+use Rattle.grind_proof_kernel.proofs.Growth.{some_and_stays, some_and_then, item_stays}
 use Rattle.grind_proof_kernel.proofs.TableGrowth.{table_stays}
 
 -- an equation of two nodes in either order stays one
@@ -41,18 +46,36 @@ clash_stays : (nodes more : List Node) (premises : List (Option Claim)) (claim :
 clash_stays nodes more premises claim h =
     (h.0, elim h.1 [ inl two ↦ inl two | inr lone ↦ inr (lone.0, lone.1, impossible_stays nodes more lone.0 lone.2) ])
 
+-- what a theorem says of nodes it still says of them
+body_stays : (nodes more : List Node) (subst : List ℕ) (n : ℕ) (theorem : TheoremData) →
+    IsBodyAt nodes theorem subst n → IsBodyAt (nodes ++ more) theorem subst n
+body_stays nodes more subst n theorem h = (
+  IsSubstitution-grows nodes (nodes ++ more) theorem.vars subst (more, refl) h.0,
+  IsInstance-grows subst theorem.body nodes (nodes ++ more) n (more, refl) h.1,
+)
+
+inst_stays : (lemmas : Lemmas) (nodes more : List Node) (t : ℕ) (subst : List ℕ) (premises : List (Option Claim)) (claim : Claim) →
+    IsInst lemmas nodes t subst premises claim → IsInst lemmas (nodes ++ more) t subst premises claim
+inst_stays lemmas nodes more t subst premises claim h = (
+  h.0,
+  some_and_then _ _ (slice_get lemmas.theorems t) (body_stays nodes more subst h.0) h.1,
+  h.2,
+  h.3,
+)
+
 pub says_stays : SaysStays
-says_stays goal nodes more literal (rules.Hyp i) premises claim h = h
-says_stays goal nodes more literal rules.Negated premises claim h = h
-says_stays goal nodes more literal rules.Branch premises claim h = h
-says_stays goal nodes more literal rules.Refl premises claim h = h
-says_stays goal nodes more literal rules.Sym premises claim h = h
-says_stays goal nodes more literal rules.Trans premises claim h = h
-says_stays goal nodes more literal rules.Cong premises claim h = cong_stays nodes more premises claim h
-says_stays goal nodes more literal rules.Eq premises claim h = eq_stays nodes more premises claim h
-says_stays goal nodes more literal rules.Back premises claim h = back_stays nodes more premises claim h
-says_stays goal nodes more literal rules.Truth premises claim h = h
-says_stays goal nodes more literal rules.Untruth premises claim h = h
-says_stays goal nodes more literal (rules.Table free) premises claim h = table_stays nodes more free premises claim h
-says_stays goal nodes more literal rules.Apart premises claim h = h
-says_stays goal nodes more literal rules.Clash premises claim h = clash_stays nodes more premises claim h
+says_stays lemmas goal nodes more literal (rules.Hyp i) premises claim h = h
+says_stays lemmas goal nodes more literal rules.Negated premises claim h = h
+says_stays lemmas goal nodes more literal (rules.Inst t subst) premises claim h = inst_stays lemmas nodes more t subst premises claim h
+says_stays lemmas goal nodes more literal rules.Branch premises claim h = h
+says_stays lemmas goal nodes more literal rules.Refl premises claim h = h
+says_stays lemmas goal nodes more literal rules.Sym premises claim h = h
+says_stays lemmas goal nodes more literal rules.Trans premises claim h = h
+says_stays lemmas goal nodes more literal rules.Cong premises claim h = cong_stays nodes more premises claim h
+says_stays lemmas goal nodes more literal rules.Eq premises claim h = eq_stays nodes more premises claim h
+says_stays lemmas goal nodes more literal rules.Back premises claim h = back_stays nodes more premises claim h
+says_stays lemmas goal nodes more literal rules.Truth premises claim h = h
+says_stays lemmas goal nodes more literal rules.Untruth premises claim h = h
+says_stays lemmas goal nodes more literal (rules.Table free) premises claim h = table_stays nodes more free premises claim h
+says_stays lemmas goal nodes more literal rules.Apart premises claim h = h
+says_stays lemmas goal nodes more literal rules.Clash premises claim h = clash_stays nodes more premises claim h

@@ -1,6 +1,7 @@
 pub mod Claims
 pub mod Tables
 pub mod Assignments
+pub mod Instances
 pub mod Rules
 pub mod Typing
 pub mod Judgement

@@ -5,6 +5,9 @@ use Rattle.std.specs.Option.{IsSomeAnd}
 use Rattle.grind_term_graph.specs.declared.head.Head.TheVariants as head
 use Rattle.grind_term_graph.specs.declared.node.Node.{Node}
 use Rattle.grind_schemes.specs.Goals.{GoalData}
+use Rattle.grind_schemes.specs.Instances.{IsSubstitution, IsInstance}
+use Rattle.grind_schemes.specs.Theorems.{TheoremData}
+use Rattle.grind_schemes.specs.declared.lemmas.Lemmas.{Lemmas}
 use Rattle.grind_proof_kernel.specs.declared.claim.Claim.{Claim}
 use Rattle.grind_proof_kernel.specs.declared.claim.Claim.TheVariants.{Holds, Fails, Same, Differ, Absurd}
 use Rattle.grind_proof_kernel.specs.declared.proof.Rule.{Rule}
@@ -39,6 +42,16 @@ IsHyp goal i premises claim = (k : ℕ) × (n : ℕ)
 -- negated: from nothing, the conclusion of the goal fails
 abbrev pub IsNegated : GoalData → List (Option Claim) → Claim → Type 0
 IsNegated goal premises claim = (premises ≡ []) × (claim ≡ Fails goal.show)
+
+-- the node is what the theorem says of these nodes, one of the right sort for each of its variables
+abbrev pub IsBodyAt : List Node → TheoremData → List ℕ → ℕ → Type 0
+IsBodyAt nodes theorem subst n = IsSubstitution nodes theorem.vars subst × IsInstance nodes subst theorem.body n
+
+-- inst: from nothing, what theorem t says of these nodes holds
+abbrev pub IsInst : Lemmas → List Node → ℕ → List ℕ → List (Option Claim) → Claim → Type 0
+IsInst lemmas nodes t subst premises claim = (n : ℕ)
+    × IsSomeAnd (slice_get lemmas.theorems t) (λ (theorem : TheoremData). IsBodyAt nodes theorem subst n)
+    × (premises ≡ []) × (claim ≡ Holds n)
 
 -- branch: from nothing, what the branch assumes
 abbrev pub IsAssumed : Option Claim → List (Option Claim) → Claim → Type 0
@@ -128,18 +141,19 @@ IsClash nodes premises claim = (claim ≡ Absurd)
     ⊎ ((one : Option Claim) × (premises ≡ one ∷ []) × IsImpossible nodes one))
 
 -- the rule lets a line claim this, in a branch that assumes the literal, with premises of these claims
-abbrev pub Says : GoalData → List Node → Option Claim → Rule → List (Option Claim) → Claim → Type 0
-Says goal nodes literal (rules.Hyp i) premises claim = IsHyp goal i premises claim
-Says goal nodes literal rules.Negated premises claim = IsNegated goal premises claim
-Says goal nodes literal rules.Branch premises claim = IsAssumed literal premises claim
-Says goal nodes literal rules.Refl premises claim = IsRefl premises claim
-Says goal nodes literal rules.Sym premises claim = IsSym premises claim
-Says goal nodes literal rules.Trans premises claim = IsTrans premises claim
-Says goal nodes literal rules.Cong premises claim = IsCong nodes premises claim
-Says goal nodes literal rules.Eq premises claim = IsEq nodes premises claim
-Says goal nodes literal rules.Back premises claim = IsBack nodes premises claim
-Says goal nodes literal rules.Truth premises claim = IsTruth premises claim
-Says goal nodes literal rules.Untruth premises claim = IsUntruth premises claim
-Says goal nodes literal (rules.Table free) premises claim = IsTable nodes free premises claim
-Says goal nodes literal rules.Apart premises claim = IsApart premises claim
-Says goal nodes literal rules.Clash premises claim = IsClash nodes premises claim
+abbrev pub Says : Lemmas → GoalData → List Node → Option Claim → Rule → List (Option Claim) → Claim → Type 0
+Says lemmas goal nodes literal (rules.Hyp i) premises claim = IsHyp goal i premises claim
+Says lemmas goal nodes literal rules.Negated premises claim = IsNegated goal premises claim
+Says lemmas goal nodes literal (rules.Inst t subst) premises claim = IsInst lemmas nodes t subst premises claim
+Says lemmas goal nodes literal rules.Branch premises claim = IsAssumed literal premises claim
+Says lemmas goal nodes literal rules.Refl premises claim = IsRefl premises claim
+Says lemmas goal nodes literal rules.Sym premises claim = IsSym premises claim
+Says lemmas goal nodes literal rules.Trans premises claim = IsTrans premises claim
+Says lemmas goal nodes literal rules.Cong premises claim = IsCong nodes premises claim
+Says lemmas goal nodes literal rules.Eq premises claim = IsEq nodes premises claim
+Says lemmas goal nodes literal rules.Back premises claim = IsBack nodes premises claim
+Says lemmas goal nodes literal rules.Truth premises claim = IsTruth premises claim
+Says lemmas goal nodes literal rules.Untruth premises claim = IsUntruth premises claim
+Says lemmas goal nodes literal (rules.Table free) premises claim = IsTable nodes free premises claim
+Says lemmas goal nodes literal rules.Apart premises claim = IsApart premises claim
+Says lemmas goal nodes literal rules.Clash premises claim = IsClash nodes premises claim

@@ -54,7 +54,7 @@ pub record IsTypedAs (lemmas : Lemmas) (goal : GoalData) (proof : Proof) (i : �
   pub claim : IsFormed proof.terms.nodes line.claim
   pub branch : IsBranch proof.branches line.branch
   pub premises : All (Serves proof.branches proof.lines i line.branch) line.premises
-  pub rule : Says goal proof.terms.nodes (literal_of proof.branches line.branch) line.rule (claims_at proof.lines line.premises) line.claim
+  pub rule : Says lemmas goal proof.terms.nodes (literal_of proof.branches line.branch) line.rule (claims_at proof.lines line.premises) line.claim
 
 -- there is a line i, and it is typed
 abbrev pub TypedLine : Lemmas → GoalData → Proof → ℕ → Type 0

@@ -10,6 +10,13 @@ pub enum Rule {
     Hyp(u32),
     /// The conclusion of the goal fails, which a proof by contradiction assumes.
     Negated,
+    /// What a theorem says of these nodes.
+    Inst {
+        /// The number of the theorem, from 0.
+        theorem: u32,
+        /// The nodes that stand for its variables.
+        subst: List<NodeId>,
+    },
     /// The literal of the line's branch.
     Branch,
     /// A term equals itself.

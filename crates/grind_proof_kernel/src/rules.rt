@@ -7,6 +7,7 @@ ghost use Rattle.grind_proof_kernel.specs.Rules.{Says};
 mod clash;
 mod congruence;
 mod equality;
+mod instances;
 mod premises;
 mod truth;
 
@@ -17,8 +18,9 @@ use clash::is_clash;
 use congruence::is_cong;
 use equality::{is_apart, is_back, is_eq, is_refl, is_sym, is_trans};
 use grind_outside::Memory;
-use grind_schemes::Goal;
+use grind_schemes::{Goal, Lemmas};
 use grind_term_graph::TermTable;
+use instances::is_inst;
 use std::alloc::Global;
 use truth::{is_assumed, is_hyp, is_negated, is_truth, is_untruth};
 
@@ -29,6 +31,7 @@ use truth::{is_assumed, is_hyp, is_negated, is_truth, is_untruth};
 /// `Memory` where memory was wanted and there was none. Only the rule `table` takes memory.
 pub fn says(
     alloc: Global,
+    lemmas: &Lemmas,
     goal: &Goal,
     terms: &TermTable,
     literal: Option<&Claim>,
@@ -37,7 +40,7 @@ pub fn says(
 ) -> Result<bool, Memory>
     requires formed { IsFormed terms.now.nodes line.now.claim }
     requires premises { All (λ p. p < length lines.now) line.now.premises }
-    ensures exact { IfOk result (λ yes. IsTrue yes ↔ Says goal.now terms.now.nodes (option_copied literal.entry) line.now.rule
+    ensures exact { IfOk result (λ yes. IsTrue yes ↔ Says lemmas.now goal.now terms.now.nodes (option_copied literal.entry) line.now.rule
         (claims_at lines.now line.now.premises) line.now.claim) }
     ensures ready { ((free : List ℕ) → line.now.rule ≢ Table free) → IsOk result }
 {
@@ -46,6 +49,15 @@ pub fn says(
     match &line.rule {
         Rule::Hyp(i) => Ok(is_hyp(goal, *i, lines, premises, claim)),
         Rule::Negated => Ok(is_negated(goal, lines, premises, claim)),
+        Rule::Inst { theorem, subst } => Ok(is_inst(
+            lemmas,
+            terms,
+            *theorem,
+            subst.as_slice(),
+            lines,
+            premises,
+            claim,
+        )),
         Rule::Branch => Ok(is_assumed(literal, lines, premises, claim)),
         Rule::Refl => Ok(is_refl(lines, premises, claim)),
         Rule::Sym => Ok(is_sym(lines, premises, claim)),
