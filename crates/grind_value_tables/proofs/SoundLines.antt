@@ -19,7 +19,7 @@ use Rattle.grind_proof_kernel.specs.Claims.{IsFormed, claim_at, claims_at}
 use Rattle.grind_proof_kernel.specs.Rules.{Says}
 use Rattle.grind_proof_kernel.specs.Typing.{Reaches, Serves, IsTypedAs, literal_of}
 use Rattle.grind_value_tables.specs.Respects.{one, zero_value, Respects}
-use Rattle.grind_value_tables.specs.Truths.{ClaimTrue, AreTrue, InstancesTrue, IsInst}
+use Rattle.grind_value_tables.specs.Truths.{ClaimTrue, AreTrue, InstancesTrue, IsByInst}
 use Rattle.grind_value_tables.specs.Laws.{AssumesTruth, HasTypedLines, IsTableFor, Sound}
 use Rattle.grind_value_tables.proofs.Fronts.{IsSomeAnd-at}
 use Rattle.grind_value_tables.proofs.Meanings.{PremisesHold, IsSomeAnd-item, claim_is}
@@ -32,7 +32,7 @@ module _ (goal : GoalData) (nodes : List Node) (limit : ℕ) (v : ℕ → ℤ) (
     (lemmas : Lemmas) (respects : Respects nodes v) (hyps : AreTrue v goal.hyps) (show : v goal.show ≡ zero_value) where
   -- each rule lets a line claim what is true
   pub says_sound : (rule : Rule) (literal : Option Claim) (premises : List (Option Claim)) (claim : Claim)
-      → ((n : ℕ) → IsInst rule → claim ≡ Holds n → v n ≡ one) → IsFormed nodes claim → ((it : Claim) → literal ≡ Some it → ClaimTrue v it) → PremisesHold v premises
+      → ((n : ℕ) → IsByInst rule → claim ≡ Holds n → v n ≡ one) → IsFormed nodes claim → ((it : Claim) → literal ≡ Some it → ClaimTrue v it) → PremisesHold v premises
       → Says lemmas goal nodes literal rule premises claim → ClaimTrue v claim
   says_sound (rules.Hyp i) literal premises claim listed formed assumed hold says = hyp_sound goal v premises claim i hyps says
   says_sound rules.Negated literal premises claim listed formed assumed hold says = negated_sound goal v premises claim show says
@@ -89,7 +89,7 @@ module _ (lemmas : Lemmas) (goal : GoalData) (proof : Proof) (v : ℕ → ℤ) (
       says_sound goal proof.terms.nodes proof.terms.limit v values.table lemmas values.respects hyps show line.rule
       (literal_of proof.branches line.branch) (claims_at proof.lines line.premises) line.claim
       (λ n by_inst holds. instances n (i, subst (λ (o : Option Line). IsSomeAnd o
-      (λ (at : Line). IsInst at.rule × (at.claim ≡ Holds n))) (sym is) (by_inst, holds))) it.claim
+      (λ (at : Line). IsByInst at.rule × (at.claim ≡ Holds n))) (sym is) (by_inst, holds))) it.claim
       (λ literal e. assumes 0 line.branch literal refl e)
       (premises_hold v proof.branches proof.lines i line.branch
       (λ j other earlier. sound_below count j other (omega arith)) assumes line.premises it.premises) it.rule

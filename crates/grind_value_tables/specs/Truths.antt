@@ -31,12 +31,12 @@ abbrev pub AreTrue : (ℕ → ℤ) → List ℕ → Type 0
 AreTrue v formulas = All (λ n. v n ≡ one) formulas
 
 -- the rule is `inst`
-abbrev pub IsInst : Rule → Type 0
-IsInst rule = (theorem : ℕ) × (nodes : List ℕ) × (rule ≡ rules.Inst theorem nodes)
+abbrev pub IsByInst : Rule → Type 0
+IsByInst rule = (theorem : ℕ) × (nodes : List ℕ) × (rule ≡ rules.Inst theorem nodes)
 
 -- the node is one that a line of the proof by `inst` claims to hold: the proof lists it as an instance
 abbrev pub IsListed : Proof → ℕ → Type 0
-IsListed proof n = (i : ℕ) × IsSomeAnd (slice_get proof.lines i) (λ (line : Line). IsInst line.rule × (line.claim ≡ Holds n))
+IsListed proof n = (i : ℕ) × IsSomeAnd (slice_get proof.lines i) (λ (line : Line). IsByInst line.rule × (line.claim ≡ Holds n))
 
 -- each instance of a theorem that the proof lists is true
 abbrev pub InstancesTrue : (ℕ → ℤ) → Proof → Type 0
