@@ -19,8 +19,7 @@ use Rattle.grind_proof_kernel.specs.Claims.{IsFormed, claim_at, claims_at}
 use Rattle.grind_proof_kernel.specs.Rules.{Says}
 use Rattle.grind_proof_kernel.specs.Typing.{HasTerms, Reaches, Serves, IsTypedAs, TypedLine, IsClosed, IsGoodBranch, last_in, appended}
 use Rattle.grind_proof_kernel.specs.Laws.{Extends}
-use Rattle.grind_proof_kernel.proofs.Growth.{field_is_still}
-use Rattle.grind_proof_kernel.proofs.BranchGrowth.{some_and_then}
+use Rattle.grind_proof_kernel.proofs.Growth.{some_and_then, field_is_still}
 use Rattle.grind_proof_kernel.proofs.LawLemmas.{typed_lines_stay_lem, typed_next_line_lem}
 use Rattle.grind_case_split.specs.Congruences.{IsProofOf}
 use Rattle.grind_case_split.specs.Writing.{IsRooted, ClaimsStay, IsWritten, root_line}

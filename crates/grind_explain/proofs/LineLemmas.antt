@@ -18,8 +18,7 @@ use Rattle.grind_proof_kernel.specs.Claims.{AreOfOneSort, claim_at, claims_at}
 use Rattle.grind_proof_kernel.specs.Rules.{Says}
 use Rattle.grind_proof_kernel.specs.Typing.{IsBranch, Reaches, Serves, IsTypedAs, TypedLine, literal_of, appended}
 use Rattle.grind_proof_kernel.specs.Laws.{Extends, TypedLinesStay, TypedNextLine}
-use Rattle.grind_proof_kernel.proofs.Growth.{some_and_stays}
-use Rattle.grind_proof_kernel.proofs.BranchGrowth.{some_and_then}
+use Rattle.grind_proof_kernel.proofs.Growth.{some_and_then, some_and_stays}
 use Rattle.grind_explain.specs.Explained.{AreTyped, IsReady, Tells, Appends, EndsWith}
 use Rattle.grind_explain.specs.Deriving.{IsUsable}
 
