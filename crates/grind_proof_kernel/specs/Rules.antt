@@ -12,6 +12,7 @@ use Rattle.grind_proof_kernel.specs.declared.claim.Claim.{Claim}
 use Rattle.grind_proof_kernel.specs.declared.claim.Claim.TheVariants.{Holds, Fails, Same, Differ, Absurd}
 use Rattle.grind_proof_kernel.specs.declared.proof.Rule.{Rule}
 use Rattle.grind_proof_kernel.specs.declared.proof.Rule.TheVariants as rules
+use Rattle.grind_proof_kernel.specs.LinearRules.{IsRead, IsWrite, IsLine, IsCombine, IsPinch, IsStrict, IsApart, IsTooGreat}
 use Rattle.grind_proof_kernel.specs.Tables.{IsTable}
 
 -- the number of the node `True`, and of `False`, in every table of terms
@@ -107,12 +108,6 @@ IsUntruth premises claim = (n : ℕ)
     × (((premises ≡ Some (Same n true_node) ∷ []) × (claim ≡ Holds n))
     ⊎ ((premises ≡ Some (Same n false_node) ∷ []) × (claim ≡ Fails n)))
 
--- apart: what equals one of two different terms differs from what equals the other
-abbrev pub IsApart : List (Option Claim) → Claim → Type 0
-IsApart premises claim = (a : ℕ) × (b : ℕ) × (c : ℕ) × (d : ℕ)
-    × (premises ≡ Some (Differ c d) ∷ Some (Same a c) ∷ Some (Same b d) ∷ [])
-    × ((claim ≡ Differ a b) ⊎ (claim ≡ Differ b a))
-
 -- a formula that holds, and that fails
 abbrev pub AreOpposed : Option Claim → Option Claim → Type 0
 AreOpposed one other = (n : ℕ) × (one ≡ Some (Holds n)) × (other ≡ Some (Fails n))
@@ -130,8 +125,12 @@ abbrev pub AreTwoNumbers : List Node → ℕ → ℕ → Type 0
 AreTwoNumbers nodes a b = (j : ℤ) × (k : ℤ) × IsNumber nodes a j × IsNumber nodes b k × (j ≢ k)
 
 -- `True` and `False`, or two different numbers, that are equal
+abbrev pub IsFalseEquality : List Node → Option Claim → Type 0
+IsFalseEquality nodes one = (a : ℕ) × (b : ℕ) × (one ≡ Some (Same a b)) × (AreBothTruths a b ⊎ AreTwoNumbers nodes a b)
+
+-- a claim that cannot be: such an equality, or a number over 0 that is at most 0
 abbrev pub IsImpossible : List Node → Option Claim → Type 0
-IsImpossible nodes one = (a : ℕ) × (b : ℕ) × (one ≡ Some (Same a b)) × (AreBothTruths a b ⊎ AreTwoNumbers nodes a b)
+IsImpossible nodes one = IsFalseEquality nodes one ⊎ IsTooGreat one
 
 -- clash: claims that contradict each other, in either order, or a claim that cannot be
 abbrev pub IsClash : List Node → List (Option Claim) → Claim → Type 0
@@ -155,5 +154,35 @@ Says lemmas goal nodes literal rules.Back premises claim = IsBack nodes premises
 Says lemmas goal nodes literal rules.Truth premises claim = IsTruth premises claim
 Says lemmas goal nodes literal rules.Untruth premises claim = IsUntruth premises claim
 Says lemmas goal nodes literal (rules.Table free) premises claim = IsTable nodes free premises claim
-Says lemmas goal nodes literal rules.Apart premises claim = IsApart premises claim
+Says lemmas goal nodes literal rules.Read premises claim = IsRead nodes premises claim
+Says lemmas goal nodes literal rules.Write premises claim = IsWrite nodes premises claim
+Says lemmas goal nodes literal rules.Line premises claim = IsLine nodes premises claim
+Says lemmas goal nodes literal (rules.Combine divisor factors) premises claim = IsCombine divisor factors premises claim
+Says lemmas goal nodes literal rules.Pinch premises claim = IsPinch nodes premises claim
+Says lemmas goal nodes literal rules.Strict premises claim = IsStrict nodes premises claim
+Says lemmas goal nodes literal rules.Apart premises claim = IsApart nodes premises claim
 Says lemmas goal nodes literal rules.Clash premises claim = IsClash nodes premises claim
+
+-- the rule reads no terms and assigns no truths: its test takes no memory
+abbrev pub TakesNoMemory : Rule → Type 0
+TakesNoMemory (rules.Hyp i) = Unit {0}
+TakesNoMemory rules.Negated = Unit {0}
+TakesNoMemory (rules.Inst t subst) = Unit {0}
+TakesNoMemory rules.Branch = Unit {0}
+TakesNoMemory rules.Refl = Unit {0}
+TakesNoMemory rules.Sym = Unit {0}
+TakesNoMemory rules.Trans = Unit {0}
+TakesNoMemory rules.Cong = Unit {0}
+TakesNoMemory rules.Eq = Unit {0}
+TakesNoMemory rules.Back = Unit {0}
+TakesNoMemory rules.Truth = Unit {0}
+TakesNoMemory rules.Untruth = Unit {0}
+TakesNoMemory (rules.Table free) = ⊥
+TakesNoMemory rules.Read = ⊥
+TakesNoMemory rules.Write = ⊥
+TakesNoMemory rules.Line = ⊥
+TakesNoMemory (rules.Combine divisor factors) = ⊥
+TakesNoMemory rules.Pinch = ⊥
+TakesNoMemory rules.Strict = ⊥
+TakesNoMemory rules.Apart = ⊥
+TakesNoMemory rules.Clash = Unit {0}
