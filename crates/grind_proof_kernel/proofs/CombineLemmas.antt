@@ -54,6 +54,22 @@ by_cut one_cut sum form whole g is positive cut decides = (
 
 -- ---- terms that are kept apart, in either order
 
+left_of : Claim → ℕ
+left_of (Differ a b) = a
+left_of _ = 0
+
+right_of : Claim → ℕ
+right_of (Differ a b) = b
+right_of _ = 0
+
+left : (p q r s : ℕ) → Differ p q ≡ Differ r s → p ≡ r
+unfolding left_of
+left p q r s e = ap left_of e
+
+right : (p q r s : ℕ) → Differ p q ≡ Differ r s → q ≡ s
+unfolding right_of
+right p q r s e = ap right_of e
+
 module _ (nodes : List Node) (premises : List (Option Claim)) (claim : Claim) (a b : ℕ) (first : Bool) (is : claim ≡ Differ a b)
     (decides : IsTrue first ↔ KeepApart nodes premises a b) where
   pub apart_first : first ≡ true → IsTrue first ↔ IsApart nodes premises claim
@@ -68,8 +84,3 @@ module _ (nodes : List Node) (premises : List (Option Claim)) (claim : Claim) (a
         let kept : K a b = subst (λ (x : ℕ). K x b) (left h.0 h.1 a b (sym h.2 ∙ is)) (subst (λ (y : ℕ). K h.0 y) (right h.0 h.1 a b (sym h.2 ∙ is)) h.3) in
         elim kept [ inl k ↦ absurd (true≢false (sym (decides.1 k) ∙ no_first)) | inr k ↦ also.1 k ],
   )
-    where
-      left : (p q r s : ℕ) → Differ p q ≡ Differ r s → p ≡ r
-      left p q r s e = cc
-      right : (p q r s : ℕ) → Differ p q ≡ Differ r s → q ≡ s
-      right p q r s e = cc

@@ -1,7 +1,8 @@
 //! Linear forms as bounds: their opposites, and the differences of terms.
-ghost use Rattle.std.specs.Prelude.{IsTrue, ◌↔◌, ◌≡◌, All, map, IfOk, pos, ◌+ℤ◌, neg_ℤ, FitsSigned};
+ghost use Rattle.std.specs.Prelude.{IsTrue, ◌↔◌, ◌≡◌, All, map, IfOk, pos, negsuc, ◌+ℤ◌, neg_ℤ, FitsSigned};
 ghost use Rattle.std.specs.Int.{w128};
 ghost use Rattle.grind_linear_forms.specs.declared.form.Part.{Part as PartData};
+ghost use Rattle.grind_linear_forms.specs.Sums.{scaled_sum};
 ghost use Rattle.grind_proof_kernel.specs.Bounds.{negated_part, opposite_form, HasOpposite, plus, IsOver, reading, difference};
 
 use crate::claim::is_number;
@@ -192,7 +193,15 @@ pub fn difference(
     let Some(right) = second else {
         return Ok(None);
     };
-    match add_scaled(alloc, &left, 1, &right, -1) {
+    let found = less(alloc, &left, &right)?;
+    Ok(found)
+}
+
+/// The first form less the second, where it is defined.
+fn less(alloc: Global, left: &Form, right: &Form) -> Result<Option<Form>, Memory>
+    ensures { IfOk result (λ found. found ≡ scaled_sum left.now (pos 1) right.now (negsuc 0)) }
+{
+    match add_scaled(alloc, left, 1, right, -1) {
         Ok(form) => Ok(Some(form)),
         Err(FormRefusal::Overflow) => Ok(None),
         Err(FormRefusal::Memory) => Err(Memory),
