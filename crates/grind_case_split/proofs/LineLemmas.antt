@@ -19,8 +19,7 @@ use Rattle.grind_proof_kernel.specs.Claims.{IsFormed, claim_at, claims_at}
 use Rattle.grind_proof_kernel.specs.Rules.{Says}
 use Rattle.grind_proof_kernel.specs.Typing.{HasTerms, Reaches, Serves, IsTypedAs, TypedLine, IsClosed, IsGoodBranch, last_in, appended}
 use Rattle.grind_proof_kernel.specs.Laws.{Extends}
-use Rattle.grind_proof_kernel.proofs.Growth.{field_is_still}
-use Rattle.grind_proof_kernel.proofs.BranchGrowth.{some_and_then}
+use Rattle.grind_proof_kernel.proofs.Growth.{some_and_then, field_is_still}
 use Rattle.grind_proof_kernel.proofs.LawLemmas.{typed_lines_stay_lem, typed_next_line_lem}
 use Rattle.grind_case_split.specs.Congruences.{IsProofOf}
 use Rattle.grind_case_split.specs.Writing.{IsRooted, ClaimsStay, IsWritten, root_line}
@@ -64,7 +63,7 @@ serves_all branches lines p root within = (
 -- a line that the rule lets claim this is typed behind the others
 put_typed : (lemmas : Lemmas) (goal : GoalData) (proof : Proof) (rule : Rule) (premises : List ℕ) (claim : Claim) →
     IsRooted lemmas goal proof → IsFormed goal.terms.nodes claim → All (λ p. p < length proof.lines) premises →
-    Says goal goal.terms.nodes None rule (claims_at proof.lines premises) claim →
+    Says lemmas goal goal.terms.nodes None rule (claims_at proof.lines premises) claim →
     IsTypedAs lemmas goal proof (length proof.lines) (root_line rule premises claim)
 put_typed lemmas goal proof rule premises claim rooted formed before says =
     let nodes : goal.terms.nodes ≡ proof.terms.nodes = sym (rooted_terms lemmas goal proof rooted) in
@@ -73,12 +72,12 @@ put_typed lemmas goal proof rule premises claim rooted formed before says =
       branch = omega arith;
       premises = All-weaker (λ p. p < length proof.lines) (Serves proof.branches proof.lines (length proof.lines) 0)
           (λ p within. serves_all proof.branches proof.lines p rooted.root within) premises before;
-      rule = subst (λ (all : List Node). Says goal all None rule (claims_at proof.lines premises) claim) nodes says;
+      rule = subst (λ (all : List Node). Says lemmas goal all None rule (claims_at proof.lines premises) claim) nodes says;
     }
 
 pub put_line_typed : (lemmas : Lemmas) (goal : GoalData) (proof : Proof) (rule : Rule) (premises : List ℕ) (claim : Claim) →
     IsRooted lemmas goal proof → IsFormed goal.terms.nodes claim → All (λ p. p < length proof.lines) premises →
-    Says goal goal.terms.nodes None rule (claims_at proof.lines premises) claim →
+    Says lemmas goal goal.terms.nodes None rule (claims_at proof.lines premises) claim →
     TypedLine lemmas goal (appended proof (root_line rule premises claim)) (length proof.lines)
 put_line_typed lemmas goal proof rule premises claim rooted formed before says =
     typed_next_line_lem lemmas goal proof (root_line rule premises claim) (put_typed lemmas goal proof rule premises claim rooted formed before says)
@@ -106,7 +105,7 @@ put_rooted lemmas goal proof line root rooted last =
 pub put_written : (lemmas : Lemmas) (goal : GoalData) (old new : Proof) (rule : Rule) (premises : List ℕ) (claim : Claim) (number : ℕ) →
     new ≡ appended old (root_line rule premises claim) → number ≡ length old.lines →
     IsRooted lemmas goal old → IsFormed goal.terms.nodes claim → All (λ p. p < length old.lines) premises →
-    Says goal goal.terms.nodes None rule (claims_at old.lines premises) claim → IsWritten lemmas goal old new number claim
+    Says lemmas goal goal.terms.nodes None rule (claims_at old.lines premises) claim → IsWritten lemmas goal old new number claim
 put_written lemmas goal old new rule premises claim number is place rooted formed before says =
     let line : Line = root_line rule premises claim in
     let last = put_line_typed lemmas goal old rule premises claim rooted formed before says in

@@ -26,6 +26,7 @@ use Rattle.grind_cli.specs.Outcomes.{ProvesGoal}
 takes_premises : (rule : Rule) (count : ℕ) → IsPremiseCount rule count → TakesPremises rule count
 takes_premises (rules.Hyp i) count h = h
 takes_premises rules.Negated count h = h
+takes_premises (rules.Inst theorem nodes) count h = h
 takes_premises rules.Branch count h = h
 takes_premises rules.Refl count h = h
 takes_premises rules.Sym count h = h

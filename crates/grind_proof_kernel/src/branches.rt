@@ -2,11 +2,15 @@
 ghost use Rattle.std.specs.Prelude.{IsTrue, ◌↔◌, ◌<◌, ◌≤◌, ◌+◌, ◌≡◌, ◌==◌, ℕ, Some, length, All, find, reverse, slice_get};
 ghost use Rattle.std.specs.Option.{IsSomeAnd, option_copied};
 ghost use Rattle.grind_proof_kernel.specs.declared.proof.Branch.{Branch as BranchData};
+ghost use Rattle.grind_proof_kernel.specs.declared.claim.Claim.TheVariants.{AtMost};
+ghost use Rattle.grind_proof_kernel.specs.Bounds.{opposite_form};
 ghost use Rattle.grind_proof_kernel.specs.Claims.{IsFormed};
 ghost use Rattle.grind_proof_kernel.specs.Typing.{branch_at, parent_of, literal_of, begin_of, Reaches, Serves, IsLiteral, AreOpposite, IsPairOf, IsParent, StandsBefore, StandsBehind, last_in, IsClosed, IsWhole, IsFirst, IsSecond, IsInPair, IsListed, IsGoodBranch};
 
+use crate::bounds::{has_opposite, is_opposite_form};
 use crate::claim::{Claim, is_formed};
 use crate::proof::{Branch, Line, Proof};
+use grind_linear_forms::Form;
 use grind_term_graph::TermTable;
 
 /// The branch of that number, where it is listed. The root, number 0, is not.
@@ -252,11 +256,12 @@ fn is_literal(claim: &Claim) -> bool
         Claim::Fails(_) => true,
         Claim::Same(_, _) => false,
         Claim::Differ(_, _) => false,
+        Claim::AtMost(form) => has_opposite(form),
         Claim::Absurd => false,
     }
 }
 
-/// Whether one of the claims says that a formula holds, and the other that it fails.
+/// Whether one of the claims says that a formula holds and the other that it fails, or the other bounds the opposite form.
 fn are_opposite(one: &Claim, other: &Claim) -> bool
     ensures { IsTrue result ↔ AreOpposite one.now other.now }
 {
@@ -265,6 +270,17 @@ fn are_opposite(one: &Claim, other: &Claim) -> bool
         Claim::Fails(node) => matches!(other, Claim::Holds(holding) if holding == node),
         Claim::Same(_, _) => false,
         Claim::Differ(_, _) => false,
+        Claim::AtMost(form) => bounds_opposite(form, other),
         Claim::Absurd => false,
     }
+}
+
+/// Whether the claim bounds the form that is opposite to this one.
+fn bounds_opposite(form: &Form, claim: &Claim) -> bool
+    ensures { IsTrue result ↔ (claim.now ≡ AtMost (opposite_form form.now)) }
+{
+    let Claim::AtMost(other) = claim else {
+        return false;
+    };
+    is_opposite_form(form, other)
 }

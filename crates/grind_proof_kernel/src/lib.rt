@@ -2,6 +2,7 @@
 //! each typed line and refuses each other one, and names the first.
 #![tactic(auto)]
 
+mod bounds;
 pub mod branches;
 pub mod checker;
 pub mod claim;

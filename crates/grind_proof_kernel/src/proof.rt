@@ -10,6 +10,13 @@ pub enum Rule {
     Hyp(u32),
     /// The conclusion of the goal fails, which a proof by contradiction assumes.
     Negated,
+    /// What a theorem says of these nodes.
+    Inst {
+        /// The number of the theorem, from 0.
+        theorem: u32,
+        /// The nodes that stand for its variables.
+        subst: List<NodeId>,
+    },
     /// The literal of the line's branch.
     Branch,
     /// A term equals itself.
@@ -30,7 +37,24 @@ pub enum Rule {
     Untruth,
     /// What the truth tables of the connectives give, from these free nodes.
     Table(List<NodeId>),
-    /// Terms that equal two different ones are different.
+    /// A comparison that holds, or fails, bounds the difference of its sides.
+    Read,
+    /// A bound makes a comparison hold, or fail.
+    Write,
+    /// Two whole numbers that are equal have a difference that is at most 0.
+    Line,
+    /// Bounds, each so often, added and then divided.
+    Combine {
+        /// By what the sum is divided.
+        divisor: i128,
+        /// How often each premise is taken.
+        factors: List<i128>,
+    },
+    /// Two whole numbers are equal where neither is over the other.
+    Pinch,
+    /// Two whole numbers that are different keep a distance.
+    Strict,
+    /// Terms that something keeps apart are different.
     Apart,
     /// Claims that contradict each other.
     Clash,

@@ -1,5 +1,5 @@
 -- A report that fits is read back from its lines.
-use Rattle.std.proofs.Common.{◌≡◌, ℕ, suc, ◌+◌, ◌-◌, ◌<◌, cond, List, [], ◌∷◌, ◌++◌, length, map, take, All, decimal, ℤ, pos, negsuc, FitsSigned, refl, sym, subst, ap, ◌∙◌, append_assoc, arith}
+use Rattle.std.proofs.Common.{◌≡◌, ℕ, suc, ◌+◌, ◌-◌, ◌<◌, Bool, true, false, cond, List, [], ◌∷◌, ◌++◌, length, map, take, All, decimal, ℤ, pos, negsuc, FitsSigned, refl, sym, subst, ap, ◌∙◌, append_assoc, arith}
 use Rattle.std.specs.Prelude.{codes, bytes_eq, nat_eq}
 use Rattle.std.specs.Int.{w128}
 use Rattle.std.specs.Fmt.{signed_decimal}
@@ -7,6 +7,7 @@ use Rattle.std.specs.List.{AllByRecursion, flat_map}
 use Rattle.std.specs.Char.{digit_value}
 use Rattle.std.specs.Str.Parse.{AllDigits, digits_value}
 use Rattle.std.proofs.lemmas.Fmt.{decimal_is_IsNumeral, decimal_is_IsNumeral_wide, decimal_injective}
+use Rattle.std.proofs.lemmas.Slice.Eq.{bytes_eq-Decides}
 use Rattle.std.proofs.lemmas.List.Elements.{recursion_from_All}
 use Rattle.grind_proof_kernel.specs.declared.claim.Claim.{Claim}
 use Rattle.grind_proof_kernel.specs.declared.claim.Claim.TheVariants as claims
@@ -14,7 +15,7 @@ use Rattle.grind_proof_kernel.specs.declared.proof.Branch.{Branch}
 use Rattle.grind_proof_kernel.specs.declared.proof.Line.{Line}
 use Rattle.grind_proof_kernel.specs.declared.proof.Rule.{Rule}
 use Rattle.grind_proof_kernel.specs.declared.proof.Rule.TheVariants as rules_of
-use Rattle.grind_report.specs.Report.{RawTerm, RawProof, Block, Report, True, False, Const, Fun, Int, Not, And, Or, Implies, Eq, Le, Add, Neg, Mul, Closed, Unexplored, term_words, rule_words, claim_words, branch_words, line_words, indexed_lines, counted_lines, block_page, header_words, end_words, report_page, IsShort, TermFits, RuleFits, ClaimFits, BranchFits, LineFits, ProofFits, BlockFits, ReportFits, ReportOf}
+use Rattle.grind_report.specs.Report.{RawTerm, RawProof, Block, Report, True, False, Const, Fun, Int, Not, And, Or, Implies, Eq, Le, Add, Neg, Mul, Closed, Unexplored, term_words, rule_words, claim_words, branch_words, line_words, indexed_lines, counted_lines, block_page, header_words, end_words, report_page, IsShort, TermFits, RuleFits, TakesPremises, ClaimFits, BranchFits, LineFits, ProofFits, BlockFits, ReportFits, ReportOf}
 use Rattle.grind_report.proofs.Spelling.{page_of, page_of-spelled}
 use Rattle.grind_report.proofs.SolidWords.{digit-ne, report_solid}
 
@@ -135,6 +136,66 @@ unfolding first_items
 first_items-back [] words h = refl
 first_items-back (n ∷ ns) words h = let one = number_back n h.0 in let more = first_items-back ns words h.1 in ap (λ (x : ℕ). x ∷ first_items (length ns) (map decimal ns ++ words)) one ∙ ap (λ (rest : List ℕ). n ∷ rest) more
 
+-- the numbers before a colon
+before_colon : List (List ℕ) → List ℕ
+before_colon [] = []
+before_colon (word ∷ words) = cond (bytes_eq word (codes ":")) [] (number word ∷ before_colon words)
+
+is_no_colon : (n : ℕ) → IsShort n → (b : Bool) → bytes_eq (decimal n) (codes ":") ≡ b → b ≡ false
+is_no_colon n short false e = refl
+is_no_colon n short true e = absurd (no_colon n short (sym ((bytes_eq-Decides (decimal n) (codes ":")).0 e)))
+
+before_colon-back : (ns : List ℕ) (words : List (List ℕ)) → AllByRecursion IsShort ns → before_colon (map decimal ns ++ codes ":" ∷ words) ≡ ns
+unfolding before_colon
+before_colon-back [] words h = refl
+before_colon-back (n ∷ ns) words h =
+    let other = is_no_colon n h.0 (bytes_eq (decimal n) (codes ":")) refl in
+    let rest = before_colon (map decimal ns ++ codes ":" ∷ words) in
+    ap (λ (b : Bool). cond b [] (number (decimal n) ∷ rest)) other
+    ∙ ap (λ (x : ℕ). x ∷ rest) (number_back n h.0) ∙ ap (λ (others : List ℕ). n ∷ others) (before_colon-back ns words h.1)
+
+-- what stands behind the words of a rule: a colon where the rule lists nodes without their count
+abbrev Follows : Rule → List (List ℕ) → Type 0
+Follows (rules_of.Inst t ids) words = (more : List (List ℕ)) × (words ≡ codes ":" ∷ more)
+Follows (rules_of.Hyp i) words = Unit {0}
+Follows rules_of.Negated words = Unit {0}
+Follows rules_of.Branch words = Unit {0}
+Follows rules_of.Refl words = Unit {0}
+Follows rules_of.Sym words = Unit {0}
+Follows rules_of.Trans words = Unit {0}
+Follows rules_of.Cong words = Unit {0}
+Follows rules_of.Eq words = Unit {0}
+Follows rules_of.Back words = Unit {0}
+Follows rules_of.Truth words = Unit {0}
+Follows rules_of.Untruth words = Unit {0}
+Follows (rules_of.Table free) words = Unit {0}
+Follows rules_of.Apart words = Unit {0}
+Follows rules_of.Clash words = Unit {0}
+
+-- behind no premises stands a colon
+colon_first : (premises : List ℕ) (words : List (List ℕ)) → length premises ≡ 0
+    → (more : List (List ℕ)) × (map decimal premises ++ codes ":" ∷ words ≡ codes ":" ∷ more)
+colon_first [] words e = (words, refl)
+colon_first (p ∷ premises) words e = absurd (omega (arith, e))
+
+line_follows : (rule : Rule) (premises : List ℕ) (words : List (List ℕ)) → TakesPremises rule (length premises)
+    → Follows rule (map decimal premises ++ codes ":" ∷ words)
+line_follows (rules_of.Inst t ids) premises words count = colon_first premises words count
+line_follows (rules_of.Hyp i) premises words count = tt
+line_follows rules_of.Negated premises words count = tt
+line_follows rules_of.Branch premises words count = tt
+line_follows rules_of.Refl premises words count = tt
+line_follows rules_of.Sym premises words count = tt
+line_follows rules_of.Trans premises words count = tt
+line_follows rules_of.Cong premises words count = tt
+line_follows rules_of.Eq premises words count = tt
+line_follows rules_of.Back premises words count = tt
+line_follows rules_of.Truth premises words count = tt
+line_follows rules_of.Untruth premises words count = tt
+line_follows (rules_of.Table free) premises words count = tt
+line_follows rules_of.Apart premises words count = tt
+line_follows rules_of.Clash premises words count = tt
+
 rule_from : List (List ℕ) → Rule
 rule_from words =
     cond (bytes_eq (first_of words) (codes "hyp")) (rules_of.Hyp (one_of words)) (cond (bytes_eq (first_of words) (codes "negated")) rules_of.Negated
@@ -144,30 +205,35 @@ rule_from words =
     (cond (bytes_eq (first_of words) (codes "back")) rules_of.Back (cond (bytes_eq (first_of words) (codes "truth")) rules_of.Truth
     (cond (bytes_eq (first_of words) (codes "untruth")) rules_of.Untruth
     (cond (bytes_eq (first_of words) (codes "table")) (rules_of.Table (first_items (one_of words) (rest_of (rest_of words))))
-    (cond (bytes_eq (first_of words) (codes "apart")) rules_of.Apart rules_of.Clash))))))))))))
+    (cond (bytes_eq (first_of words) (codes "inst")) (rules_of.Inst (one_of words) (before_colon (rest_of (rest_of words))))
+    (cond (bytes_eq (first_of words) (codes "apart")) rules_of.Apart rules_of.Clash)))))))))))))
 
-rule_back : (rule : Rule) (words : List (List ℕ)) → RuleFits rule → rule_from (rule_words rule ++ words) ≡ rule
+rule_back : (rule : Rule) (words : List (List ℕ)) → RuleFits rule → Follows rule words → rule_from (rule_words rule ++ words) ≡ rule
 unfolding rule_from
-rule_back (rules_of.Hyp i) words fits = ap (λ (x : ℕ). rules_of.Hyp x) (number_back i fits)
-rule_back rules_of.Negated words fits = refl
-rule_back rules_of.Branch words fits = refl
-rule_back rules_of.Refl words fits = refl
-rule_back rules_of.Sym words fits = refl
-rule_back rules_of.Trans words fits = refl
-rule_back rules_of.Cong words fits = refl
-rule_back rules_of.Eq words fits = refl
-rule_back rules_of.Back words fits = refl
-rule_back rules_of.Truth words fits = refl
-rule_back rules_of.Untruth words fits = refl
-rule_back (rules_of.Table free) words fits =
+rule_back (rules_of.Hyp i) words fits behind = ap (λ (x : ℕ). rules_of.Hyp x) (number_back i fits)
+rule_back rules_of.Negated words fits behind = refl
+rule_back (rules_of.Inst t ids) words fits behind =
+    ap (λ (ws : List (List ℕ)). rules_of.Inst (number (decimal t)) (before_colon (map decimal ids ++ ws))) behind.1
+    ∙ ap (λ (x : ℕ). rules_of.Inst x (before_colon (map decimal ids ++ codes ":" ∷ behind.0))) (number_back t fits.0)
+    ∙ ap (λ (ns : List ℕ). rules_of.Inst t ns) (before_colon-back ids behind.0 (recursion_from_All IsShort ids fits.1))
+rule_back rules_of.Branch words fits behind = refl
+rule_back rules_of.Refl words fits behind = refl
+rule_back rules_of.Sym words fits behind = refl
+rule_back rules_of.Trans words fits behind = refl
+rule_back rules_of.Cong words fits behind = refl
+rule_back rules_of.Eq words fits behind = refl
+rule_back rules_of.Back words fits behind = refl
+rule_back rules_of.Truth words fits behind = refl
+rule_back rules_of.Untruth words fits behind = refl
+rule_back (rules_of.Table free) words fits behind =
     ap (λ (k : ℕ). rules_of.Table (first_items k (map decimal free ++ words))) (number_back (length free) fits.0)
     ∙ ap (λ (ns : List ℕ). rules_of.Table ns) (first_items-back free words (recursion_from_All IsShort free fits.1))
-rule_back rules_of.Apart words fits = refl
-rule_back rules_of.Clash words fits = refl
+rule_back rules_of.Apart words fits behind = refl
+rule_back rules_of.Clash words fits behind = refl
 
-same_rule : (a b : Rule) (xs ys : List (List ℕ)) → RuleFits a → RuleFits b → rule_words a ++ xs ≡ rule_words b ++ ys → (a ≡ b) × (xs ≡ ys)
-same_rule a b xs ys ha hb e =
-    let inject : a ≡ b = sym (rule_back a xs ha) ∙ ap rule_from e ∙ rule_back b ys hb in
+same_rule : (a b : Rule) (xs ys : List (List ℕ)) → RuleFits a → RuleFits b → Follows a xs → Follows b ys → rule_words a ++ xs ≡ rule_words b ++ ys → (a ≡ b) × (xs ≡ ys)
+same_rule a b xs ys ha hb behind_a behind_b e =
+    let inject : a ≡ b = sym (rule_back a xs ha behind_a) ∙ ap rule_from e ∙ rule_back b ys hb behind_b in
     let moved : rule_words a ++ xs ≡ rule_words a ++ ys = e ∙ ap (λ (r : Rule). rule_words r ++ ys) (sym inject) in
     (inject, cancel (rule_words a) xs ys moved)
 
@@ -216,6 +282,7 @@ same_line a b ha hb e =
     let tail_b = rule_words b.rule ++ (map decimal b.premises ++ codes ":" ∷ claim_words b.claim) in
     let branch : a.branch ≡ b.branch = same_number a.branch b.branch ha.branch hb.branch (first_is (decimal a.branch) (decimal b.branch) tail_a tail_b e) in
     let rule = same_rule a.rule b.rule (map decimal a.premises ++ codes ":" ∷ claim_words a.claim) (map decimal b.premises ++ codes ":" ∷ claim_words b.claim) ha.rule hb.rule
+    (line_follows a.rule a.premises (claim_words a.claim) ha.count) (line_follows b.rule b.premises (claim_words b.claim) hb.count)
     (rest_is (decimal a.branch) (decimal b.branch) tail_a tail_b e) in
     let premises = same_premises a.premises b.premises (claim_words a.claim) (claim_words b.claim)
     (recursion_from_All IsShort a.premises ha.premises) (recursion_from_All IsShort b.premises hb.premises) rule.1 in

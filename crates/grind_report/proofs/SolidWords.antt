@@ -96,6 +96,8 @@ term_solid (Mul a b) fits = (written (codes "mul") refl, (short_solid a fits.0, 
 rule_solid : (rule : Rule) → RuleFits rule → AllByRecursion IsSolid (rule_words rule)
 rule_solid (rules_of.Hyp i) fits = (written (codes "hyp") refl, (short_solid i fits, tt))
 rule_solid rules_of.Negated fits = (written (codes "negated") refl, tt)
+rule_solid (rules_of.Inst t ids) fits =
+    (written (codes "inst") refl, (short_solid t fits.0, numbers_solid ids (recursion_from_All IsShort ids fits.1)))
 rule_solid rules_of.Branch fits = (written (codes "branch") refl, tt)
 rule_solid rules_of.Refl fits = (written (codes "refl") refl, tt)
 rule_solid rules_of.Sym fits = (written (codes "sym") refl, tt)

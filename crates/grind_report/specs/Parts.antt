@@ -47,6 +47,7 @@ head_details signature constants args (heads.Const number) = constant_name const
 abbrev pub rule_word : Rule → List ℕ
 rule_word (rules.Hyp i) = codes "hyp"
 rule_word rules.Negated = codes "negated"
+rule_word (rules.Inst t subst) = codes "inst"
 rule_word rules.Branch = codes "branch"
 rule_word rules.Refl = codes "refl"
 rule_word rules.Sym = codes "sym"
@@ -64,6 +65,7 @@ rule_word rules.Clash = codes "clash"
 abbrev pub rule_details : Rule → List (List ℕ)
 rule_details (rules.Hyp i) = decimal i ∷ []
 rule_details rules.Negated = []
+rule_details (rules.Inst t subst) = decimal t ∷ map decimal subst
 rule_details rules.Branch = []
 rule_details rules.Refl = []
 rule_details rules.Sym = []

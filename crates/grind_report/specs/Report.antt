@@ -59,10 +59,12 @@ term_words (Add a b) = codes "add" ∷ decimal a ∷ decimal b ∷ []
 term_words (Neg a) = codes "neg" ∷ decimal a ∷ []
 term_words (Mul a b) = codes "mul" ∷ decimal a ∷ decimal b ∷ []
 
--- the words of a rule, before its premises. Those of `table` count the free nodes, and list them
+-- the words of a rule, before its premises. Those of `table` count the free nodes, and list them; those of `inst` list the
+-- nodes up to the colon, since the rule has no premise
 abbrev pub rule_words : Rule → List (List ℕ)
 rule_words (rules.Hyp i) = codes "hyp" ∷ decimal i ∷ []
 rule_words rules.Negated = codes "negated" ∷ []
+rule_words (rules.Inst t subst) = codes "inst" ∷ decimal t ∷ map decimal subst
 rule_words rules.Branch = codes "branch" ∷ []
 rule_words rules.Refl = codes "refl" ∷ []
 rule_words rules.Sym = codes "sym" ∷ []
@@ -160,6 +162,7 @@ TermFits (Mul a b) = IsShort a × IsShort b
 abbrev pub RuleFits : Rule → Type 0
 RuleFits (rules.Hyp i) = IsShort i
 RuleFits rules.Negated = Unit {0}
+RuleFits (rules.Inst t subst) = IsShort t × All IsShort subst
 RuleFits rules.Branch = Unit {0}
 RuleFits rules.Refl = Unit {0}
 RuleFits rules.Sym = Unit {0}
@@ -177,6 +180,7 @@ RuleFits rules.Clash = Unit {0}
 abbrev pub TakesPremises : Rule → ℕ → Type 0
 TakesPremises (rules.Hyp i) count = count ≡ 0
 TakesPremises rules.Negated count = count ≡ 0
+TakesPremises (rules.Inst t subst) count = count ≡ 0
 TakesPremises rules.Branch count = count ≡ 0
 TakesPremises rules.Refl count = count ≡ 0
 TakesPremises rules.Sym count = count ≡ 1

@@ -18,7 +18,7 @@ use Rattle.grind_proof_kernel.specs.declared.proof.Proof.{Proof}
 use Rattle.grind_proof_kernel.specs.Claims.{IsFormed}
 use Rattle.grind_proof_kernel.specs.Typing.{IsLiteral, AreOpposite, IsParent, IsClosed, IsFirst, IsSecond, IsInPair, IsListed, IsGoodBranch, Typed, branch_at, parent_of}
 use Rattle.grind_value_tables.specs.Respects.{zero_value, Respects}
-use Rattle.grind_value_tables.specs.Truths.{ClaimTrue, AreTrue}
+use Rattle.grind_value_tables.specs.Truths.{ClaimTrue, AreTrue, InstancesTrue}
 use Rattle.grind_value_tables.specs.Laws.{AssumesTruth, IsTableFor, TypedIsTrue}
 use Rattle.grind_value_tables.proofs.Fronts.{IsSomeAnd-at}
 use Rattle.grind_value_tables.proofs.Meanings.{IsSomeAnd-item, claim_is, formula_value}
@@ -119,7 +119,7 @@ module _ (nodes : List Node) (branches : List Branch) (lines : List Line) (k : �
   ]
 
 module _ (lemmas : Lemmas) (goal : GoalData) (proof : Proof) (v : ℕ → ℤ) (values : IsTableFor goal proof v)
-    (hyps : AreTrue v goal.hyps) (show : v goal.show ≡ zero_value) (typed : Typed lemmas goal proof) where
+    (hyps : AreTrue v goal.hyps) (instances : InstancesTrue v proof) (show : v goal.show ≡ zero_value) (typed : Typed lemmas goal proof) where
   -- a listed branch, of that number, assumes only what is true where its parent does and its literal is true
   assumes_listed : (branch parent : ℕ) (it : Branch) → branch_at proof.branches branch ≡ Some it → it.parent ≡ parent
       → AssumesTruth v proof.branches parent → ClaimTrue v it.literal → AssumesTruth v proof.branches branch
@@ -158,7 +158,7 @@ module _ (lemmas : Lemmas) (goal : GoalData) (proof : Proof) (v : ℕ → ℤ) (
   no_branch (suc count) branch far within assumes = elim (ends_of proof branch (typed.branches branch within)) [
     | inl parent ↦ no_parent branch (λ higher above stands. no_branch count higher (omega arith) stands) assumes parent
     | inr closed ↦ closed_is_absurd proof.lines branch v proof.branches
-        (sound_line lemmas goal proof v values hyps show typed.lines) assumes closed
+        (sound_line lemmas goal proof v values hyps instances show typed.lines) assumes closed
   ]
 
   pub no_false_conclusion : ⊥
@@ -172,11 +172,11 @@ sort_of_longer (node ∷ nodes) more zero sort e = e
 sort_of_longer (node ∷ nodes) more (suc n) sort e = sort_of_longer nodes more n sort e
 
 pub typed_proofs : TypedIsTrue
-typed_proofs lemmas goal proof v is_goal values typed hyps =
+typed_proofs lemmas goal proof v is_goal values typed hyps instances =
     let sort : sort_at proof.terms.nodes goal.show ≡ Some prop =
     subst (λ ns. sort_at ns goal.show ≡ Some prop) (sym values.begins.1)
     (sort_of_longer goal.terms.nodes values.begins.0 goal.show prop is_goal.show) in
     elim (formula_value proof.terms.nodes v values.respects goal.show sort) [
-      | inl show ↦ absurd (no_false_conclusion lemmas goal proof v values hyps show typed)
+      | inl show ↦ absurd (no_false_conclusion lemmas goal proof v values hyps instances show typed)
       | inr show ↦ show
     ]

@@ -14,6 +14,7 @@ fn word_of_rule(rule: &Rule) -> &'static [u8]
     match rule {
         Rule::Hyp(_) => b"hyp",
         Rule::Negated => b"negated",
+        Rule::Inst { .. } => b"inst",
         Rule::Branch => b"branch",
         Rule::Refl => b"refl",
         Rule::Sym => b"sym",
@@ -29,7 +30,8 @@ fn word_of_rule(rule: &Rule) -> &'static [u8]
     }
 }
 
-/// The numbers of a rule: that of the hypothesis, or the count of the free nodes and these.
+/// The numbers of a rule: that of the hypothesis, that of the theorem and its nodes, or the count of the free nodes and
+/// these.
 fn put_details(out: &mut List<u8>, rule: &Rule) -> Result<(), Memory>
     ensures text { OnOk result (out.new ≡ out.old ++ spaced (rule_details rule.now)) }
     ensures fits { OnOk result (RuleFits rule.now) }
@@ -37,6 +39,11 @@ fn put_details(out: &mut List<u8>, rule: &Rule) -> Result<(), Memory>
     match rule {
         Rule::Hyp(number) => {
             words::put_number(out, *number)?;
+            Ok(())
+        }
+        Rule::Inst { theorem, subst } => {
+            words::put_number(out, *theorem)?;
+            words::put_nodes(out, subst.as_slice())?;
             Ok(())
         }
         Rule::Table(free) => {

@@ -1,0 +1,86 @@
+-- Sums of premises, one premise after the other.
+use Rattle.std.proofs.Common.{◌≡◌, List, [], ◌∷◌, Option, Some, None, ℕ, ℤ, pos, ap, sym, ◌∙◌, refl, subst, Bool, true, false, true≢false, All, ◌↔◌, ◌≤ℤ◌, ◌<ℤ◌, ◌*ℤ◌, ◌⊎◌, inl, inr}
+use Rattle.std.specs.Prelude.{IsTrue}
+use Rattle.std.proofs.lemmas.List.Elements.{All-nil, All-cons}
+use Rattle.grind_term_graph.specs.declared.node.Node.{Node}
+use Rattle.grind_linear_forms.specs.declared.form.Part.{Part}
+use Rattle.grind_linear_forms.specs.Forms.{part_of}
+use Rattle.grind_linear_forms.specs.Cuts.{Divides, DividesAll, IsCut, times}
+use Rattle.grind_linear_forms.specs.Laws.{OneCut}
+use Rattle.grind_proof_kernel.specs.declared.claim.Claim.{Claim}
+use Rattle.grind_proof_kernel.specs.declared.claim.Claim.TheVariants.{Differ}
+use Rattle.std.specs.Option.{option_and_then}
+use Rattle.grind_linear_forms.specs.Forms.{FormData}
+use Rattle.grind_linear_forms.specs.Sums.{scaled_sum}
+use Rattle.grind_proof_kernel.specs.declared.proof.Line.{Line}
+use Rattle.grind_proof_kernel.specs.Claims.{claim_at, claims_at}
+use Rattle.grind_proof_kernel.specs.LinearRules.{taken, combined, IsWithinCut, KeepApart, IsApart}
+
+-- the first premise is added, and the others are left
+pub combined_goes_on : (lines : List Line) (whole : Option FormData) (sum next : FormData) (factors factors_tail : List ℤ) (factor : ℤ)
+    (ps ps_tail : List ℕ) (p : ℕ) → ps ≡ p ∷ ps_tail → factors ≡ factor ∷ factors_tail →
+    Some next ≡ option_and_then (λ (form : FormData). scaled_sum sum (pos 1) form factor) (taken factor (claim_at lines p)) →
+    whole ≡ combined sum factors (claims_at lines ps) → whole ≡ combined next factors_tail (claims_at lines ps_tail)
+combined_goes_on lines whole sum next factors factors_tail factor ps ps_tail p e f given so_far =
+    let K = λ (o : Option FormData). option_and_then (λ (n : FormData). combined n factors_tail (claims_at lines ps_tail)) o in
+    so_far ∙ ap (λ (xs : List ℤ). combined sum xs (claims_at lines ps)) f
+    ∙ ap (λ (qs : List ℕ). combined sum (factor ∷ factors_tail) (claims_at lines qs)) e ∙ ap K (sym given)
+
+-- ---- cuts
+
+times_divided : (g : ℤ) (parts : List Part) → All (Divides g) (times g parts)
+times_divided g [] = All-nil (Divides g)
+times_divided g (part ∷ parts) =
+    All-cons (Divides g) (part_of part.node (g *ℤ part.coefficient)) (times g parts) (part.coefficient, refl) (times_divided g parts)
+
+-- what has a cut by a number is divided by it
+pub cut_divides : (sum cut : FormData) (g : ℤ) → IsCut sum g cut → DividesAll g sum.parts
+cut_divides sum cut g is = subst (All (Divides g)) (sym is.parts_of) (times_divided g cut.parts)
+
+pub no_cut : (sum form : FormData) (g : ℤ) → (DividesAll g sum.parts → ⊥) → IsTrue false ↔ IsWithinCut sum g form
+no_cut sum form g none = (λ h. absurd (true≢false (sym h)), λ h. absurd (none (cut_divides sum h.0 g h.2)))
+
+pub no_divisor : (sum form : FormData) (g : ℤ) → (pos 0 <ℤ g → ⊥) → IsTrue false ↔ IsWithinCut sum g form
+no_divisor sum form g none = (λ h. absurd (true≢false (sym h)), λ h. absurd (none h.1))
+
+-- a test of the cut, read as one of the sum
+pub by_cut : OneCut → (sum form whole : FormData) (g : ℤ) (is : Bool) → pos 0 <ℤ g → IsCut sum g whole
+    → (IsTrue is ↔ ((form.parts ≡ whole.parts) × (form.constant ≤ℤ whole.constant))) → IsTrue is ↔ IsWithinCut sum g form
+by_cut one_cut sum form whole g is positive cut decides = (
+  λ h. let both = decides.0 h in (whole, positive, cut, both.0, both.1),
+  λ h. decides.1 (subst (λ (it : FormData). (form.parts ≡ it.parts) × (form.constant ≤ℤ it.constant))
+      (one_cut sum h.0 whole g positive h.2 cut) (h.3, h.4)),
+)
+
+-- ---- terms that are kept apart, in either order
+
+left_of : Claim → ℕ
+left_of (Differ a b) = a
+left_of _ = 0
+
+right_of : Claim → ℕ
+right_of (Differ a b) = b
+right_of _ = 0
+
+left : (p q r s : ℕ) → Differ p q ≡ Differ r s → p ≡ r
+unfolding left_of
+left p q r s e = ap left_of e
+
+right : (p q r s : ℕ) → Differ p q ≡ Differ r s → q ≡ s
+unfolding right_of
+right p q r s e = ap right_of e
+
+module _ (nodes : List Node) (premises : List (Option Claim)) (claim : Claim) (a b : ℕ) (first : Bool) (is : claim ≡ Differ a b)
+    (decides : IsTrue first ↔ KeepApart nodes premises a b) where
+  pub apart_first : first ≡ true → IsTrue first ↔ IsApart nodes premises claim
+  apart_first yes_first = (λ h. (a, b, is, inl (decides.0 h)), λ h. yes_first)
+
+  pub apart_second : (second : Bool) → first ≡ false → (IsTrue second ↔ KeepApart nodes premises b a)
+      → IsTrue second ↔ IsApart nodes premises claim
+  apart_second second no_first also = (
+    λ h. (a, b, is, inr (also.0 h)),
+    λ h.
+        let K : ℕ → ℕ → Type 0 = λ x y. KeepApart nodes premises x y ⊎ KeepApart nodes premises y x in
+        let kept : K a b = subst (λ (x : ℕ). K x b) (left h.0 h.1 a b (sym h.2 ∙ is)) (subst (λ (y : ℕ). K h.0 y) (right h.0 h.1 a b (sym h.2 ∙ is)) h.3) in
+        elim kept [ inl k ↦ absurd (true≢false (sym (decides.1 k) ∙ no_first)) | inr k ↦ also.1 k ],
+  )
