@@ -2,8 +2,8 @@ pub mod Claims
 pub mod Tables
 pub mod Assignments
 pub mod Instances
-pub mod Bounds
 pub mod LinearRules
+pub mod PolyRules
 pub mod Rules
 pub mod Typing
 pub mod Judgement

@@ -5,23 +5,17 @@ use Rattle.grind_term_graph.specs.declared.head.Head.TheVariants as head
 use Rattle.grind_term_graph.specs.declared.node.Node.{Node}
 use Rattle.grind_linear_forms.specs.Forms.{FormData, number_form}
 use Rattle.grind_linear_forms.specs.Sums.{scaled_sum}
-use Rattle.grind_linear_forms.specs.Cuts.{IsCut}
 use Rattle.grind_proof_kernel.specs.declared.claim.Claim.{Claim}
-use Rattle.grind_proof_kernel.specs.declared.claim.Claim.TheVariants.{Holds, Fails, Same, Differ, AtMost, Absurd}
-use Rattle.grind_proof_kernel.specs.Bounds.{plus, IsOver, difference}
+use Rattle.grind_proof_kernel.specs.declared.claim.Claim.TheVariants.{Holds, Fails, Same, Differ, AtMost, Zero, Absurd}
+use Rattle.grind_polynomials.specs.declared.poly.Term.{Term}
+use Rattle.grind_differences.specs.Bounds.{plus, IsWithinCut}
+use Rattle.grind_differences.specs.Differences.{difference, IsDifferencePlus, IsDifferenceOver, AreApartByReading}
+use Rattle.grind_differences.specs.Equations.{form_of}
 
 -- the node says that the first is at most the second
 abbrev pub IsComparison : List Node → ℕ → ℕ → ℕ → Type 0
 IsComparison nodes node left right =
     IsSomeAnd (slice_get nodes node) (λ (it : Node). (it.head ≡ head.Le) × (it.args ≡ left ∷ right ∷ []))
-
--- the form is the reading of the first less that of the second, and a number that is added
-abbrev pub IsDifferencePlus : List Node → ℕ → ℕ → ℤ → FormData → Type 0
-IsDifferencePlus nodes a b number form = (base : FormData) × (difference nodes a b ≡ Some base) × (form ≡ plus base number)
-
--- the same, where the number that is added is at least this one
-abbrev pub IsDifferenceOver : List Node → ℕ → ℕ → ℤ → FormData → Type 0
-IsDifferenceOver nodes a b least form = (base : FormData) × (difference nodes a b ≡ Some base) × IsOver base least form
 
 -- where the node says that a is at most b, this holds of a and b
 abbrev pub Compares : List Node → ℕ → (ℕ → ℕ → Type 0) → Type 0
@@ -45,10 +39,12 @@ abbrev pub IsLine : List Node → List (Option Claim) → Claim → Type 0
 IsLine nodes premises claim = (a : ℕ) × (b : ℕ) × (form : FormData)
     × (premises ≡ Some (Same a b) ∷ []) × (claim ≡ AtMost form) × (difference nodes a b ≡ Some form)
 
--- what a premise gives a combination that takes it so often: a bound is taken a number of times that is not negative
+-- what a premise gives a combination that takes it so often: a bound is taken a number of times that is not negative, and
+-- an equation of degree at most 1 any number of times
 abbrev pub taken : ℤ → Option Claim → Option FormData
 taken (pos times) (Some (AtMost form)) = Some form
 taken (negsuc times) (Some (AtMost form)) = None
+taken times (Some (Zero poly)) = form_of poly
 taken times (Some (Holds n)) = None
 taken times (Some (Fails n)) = None
 taken times (Some (Same a b)) = None
@@ -64,12 +60,6 @@ combined sum (factor ∷ factors) [] = None
 combined sum (factor ∷ factors) (premise ∷ premises) =
     option_and_then (λ next. combined next factors premises)
     (option_and_then (λ form. scaled_sum sum (pos 1) form factor) (taken factor premise))
-
--- a positive number divides the coefficients of the sum; the form has the quotients, and a constant that is at most that of
--- the sum divided by the number, rounded up
-abbrev pub IsWithinCut : FormData → ℤ → FormData → Type 0
-IsWithinCut sum divisor form = (cut : FormData) × (pos 0 <ℤ divisor) × IsCut sum divisor cut
-    × (form.parts ≡ cut.parts) × (form.constant ≤ℤ cut.constant)
 
 -- combine: the sum of the premises, each so often, divided
 abbrev pub IsCombine : ℤ → List ℤ → List (Option Claim) → Claim → Type 0
@@ -87,10 +77,6 @@ abbrev pub IsStrict : List Node → List (Option Claim) → Claim → Type 0
 IsStrict nodes premises claim = (a : ℕ) × (b : ℕ) × (form : FormData)
     × (premises ≡ Some (Differ a b) ∷ Some (AtMost form) ∷ []) × (claim ≡ AtMost (plus form (pos 1)))
     × ((difference nodes a b ≡ Some form) ⊎ (difference nodes b a ≡ Some form))
-
--- the readings of the two differ by a number other than 0
-abbrev pub AreApartByReading : List Node → ℕ → ℕ → Type 0
-AreApartByReading nodes a b = (form : FormData) × (difference nodes a b ≡ Some form) × (form.parts ≡ []) × (form.constant ≢ pos 0)
 
 -- the difference of the two, and 1 or more, is at most 0
 abbrev pub IsBoundOver : List Node → Option Claim → ℕ → ℕ → Type 0

@@ -13,6 +13,7 @@ use Rattle.grind_proof_kernel.specs.declared.claim.Claim.TheVariants.{Holds, Fai
 use Rattle.grind_proof_kernel.specs.declared.proof.Rule.{Rule}
 use Rattle.grind_proof_kernel.specs.declared.proof.Rule.TheVariants as rules
 use Rattle.grind_proof_kernel.specs.LinearRules.{IsRead, IsWrite, IsLine, IsCombine, IsPinch, IsStrict, IsApart, IsTooGreat}
+use Rattle.grind_proof_kernel.specs.PolyRules.{IsPolyRule, IsIdeal, IsEqual, IsFalseZero}
 use Rattle.grind_proof_kernel.specs.Tables.{IsTable}
 
 -- the number of the node `True`, and of `False`, in every table of terms
@@ -128,9 +129,9 @@ AreTwoNumbers nodes a b = (j : ℤ) × (k : ℤ) × IsNumber nodes a j × IsNumb
 abbrev pub IsFalseEquality : List Node → Option Claim → Type 0
 IsFalseEquality nodes one = (a : ℕ) × (b : ℕ) × (one ≡ Some (Same a b)) × (AreBothTruths a b ⊎ AreTwoNumbers nodes a b)
 
--- a claim that cannot be: such an equality, or a number over 0 that is at most 0
+-- a claim that cannot be: such an equality, a number over 0 that is at most 0, or another number than 0 that is 0
 abbrev pub IsImpossible : List Node → Option Claim → Type 0
-IsImpossible nodes one = IsFalseEquality nodes one ⊎ IsTooGreat one
+IsImpossible nodes one = IsFalseEquality nodes one ⊎ (IsTooGreat one ⊎ IsFalseZero one)
 
 -- clash: claims that contradict each other, in either order, or a claim that cannot be
 abbrev pub IsClash : List Node → List (Option Claim) → Claim → Type 0
@@ -157,10 +158,13 @@ Says lemmas goal nodes literal (rules.Table free) premises claim = IsTable nodes
 Says lemmas goal nodes literal rules.Read premises claim = IsRead nodes premises claim
 Says lemmas goal nodes literal rules.Write premises claim = IsWrite nodes premises claim
 Says lemmas goal nodes literal rules.Line premises claim = IsLine nodes premises claim
+Says lemmas goal nodes literal rules.Poly premises claim = IsPolyRule nodes premises claim
 Says lemmas goal nodes literal (rules.Combine divisor factors) premises claim = IsCombine divisor factors premises claim
 Says lemmas goal nodes literal rules.Pinch premises claim = IsPinch nodes premises claim
 Says lemmas goal nodes literal rules.Strict premises claim = IsStrict nodes premises claim
 Says lemmas goal nodes literal rules.Apart premises claim = IsApart nodes premises claim
+Says lemmas goal nodes literal (rules.Ideal divisor factors) premises claim = IsIdeal divisor factors premises claim
+Says lemmas goal nodes literal rules.Equal premises claim = IsEqual nodes premises claim
 Says lemmas goal nodes literal rules.Clash premises claim = IsClash nodes premises claim
 
 -- the rule reads no terms and assigns no truths: its test takes no memory
@@ -181,8 +185,11 @@ TakesNoMemory (rules.Table free) = ⊥
 TakesNoMemory rules.Read = ⊥
 TakesNoMemory rules.Write = ⊥
 TakesNoMemory rules.Line = ⊥
+TakesNoMemory rules.Poly = ⊥
 TakesNoMemory (rules.Combine divisor factors) = ⊥
 TakesNoMemory rules.Pinch = ⊥
 TakesNoMemory rules.Strict = ⊥
 TakesNoMemory rules.Apart = ⊥
+TakesNoMemory (rules.Ideal divisor factors) = ⊥
+TakesNoMemory rules.Equal = ⊥
 TakesNoMemory rules.Clash = Unit {0}

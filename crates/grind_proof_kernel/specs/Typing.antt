@@ -5,11 +5,11 @@ use Rattle.grind_term_graph.specs.declared.node.Node.{Node}
 use Rattle.grind_schemes.specs.Goals.{GoalData}
 use Rattle.grind_schemes.specs.declared.lemmas.Lemmas.{Lemmas}
 use Rattle.grind_proof_kernel.specs.declared.claim.Claim.{Claim}
-use Rattle.grind_proof_kernel.specs.declared.claim.Claim.TheVariants.{Holds, Fails, Same, Differ, AtMost, Absurd}
+use Rattle.grind_proof_kernel.specs.declared.claim.Claim.TheVariants.{Holds, Fails, Same, Differ, AtMost, Zero, Absurd}
 use Rattle.grind_proof_kernel.specs.declared.proof.Branch.{Branch}
 use Rattle.grind_proof_kernel.specs.declared.proof.Line.{Line}
 use Rattle.grind_proof_kernel.specs.declared.proof.Proof.{Proof}
-use Rattle.grind_proof_kernel.specs.Bounds.{opposite_form, HasOpposite}
+use Rattle.grind_differences.specs.Bounds.{opposite_form, HasOpposite}
 use Rattle.grind_proof_kernel.specs.Claims.{IsFormed, claims_at}
 use Rattle.grind_proof_kernel.specs.Rules.{Says}
 
@@ -68,6 +68,7 @@ IsLiteral (Fails n) = Unit {0}
 IsLiteral (Same a b) = ⊥
 IsLiteral (Differ a b) = ⊥
 IsLiteral (AtMost form) = HasOpposite form
+IsLiteral (Zero poly) = ⊥
 IsLiteral Absurd = ⊥
 
 -- the two literals are opposite: one says that a formula holds, the other that it fails; or one bounds a form, the other the
@@ -78,6 +79,7 @@ AreOpposite (Fails n) other = other ≡ Holds n
 AreOpposite (Same a b) other = ⊥
 AreOpposite (Differ a b) other = ⊥
 AreOpposite (AtMost form) other = other ≡ AtMost (opposite_form form)
+AreOpposite (Zero poly) other = ⊥
 AreOpposite Absurd other = ⊥
 
 -- where the lines of a branch may begin: the root at the first line

@@ -3,11 +3,11 @@ ghost use Rattle.std.specs.Prelude.{IsTrue, ◌↔◌, ◌<◌, ◌≤◌, ◌+�
 ghost use Rattle.std.specs.Option.{IsSomeAnd, option_copied};
 ghost use Rattle.grind_proof_kernel.specs.declared.proof.Branch.{Branch as BranchData};
 ghost use Rattle.grind_proof_kernel.specs.declared.claim.Claim.TheVariants.{AtMost};
-ghost use Rattle.grind_proof_kernel.specs.Bounds.{opposite_form};
+ghost use Rattle.grind_differences.specs.Bounds.{opposite_form};
 ghost use Rattle.grind_proof_kernel.specs.Claims.{IsFormed};
 ghost use Rattle.grind_proof_kernel.specs.Typing.{branch_at, parent_of, literal_of, begin_of, Reaches, Serves, IsLiteral, AreOpposite, IsPairOf, IsParent, StandsBefore, StandsBehind, last_in, IsClosed, IsWhole, IsFirst, IsSecond, IsInPair, IsListed, IsGoodBranch};
 
-use crate::bounds::{has_opposite, is_opposite_form};
+use grind_differences::{has_opposite, is_opposite_form};
 use crate::claim::{Claim, is_formed};
 use crate::proof::{Branch, Line, Proof};
 use grind_linear_forms::Form;
@@ -257,6 +257,7 @@ fn is_literal(claim: &Claim) -> bool
         Claim::Same(_, _) => false,
         Claim::Differ(_, _) => false,
         Claim::AtMost(form) => has_opposite(form),
+        Claim::Zero(_) => false,
         Claim::Absurd => false,
     }
 }
@@ -271,6 +272,7 @@ fn are_opposite(one: &Claim, other: &Claim) -> bool
         Claim::Same(_, _) => false,
         Claim::Differ(_, _) => false,
         Claim::AtMost(form) => bounds_opposite(form, other),
+        Claim::Zero(_) => false,
         Claim::Absurd => false,
     }
 }

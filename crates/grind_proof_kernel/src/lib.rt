@@ -2,7 +2,6 @@
 //! each typed line and refuses each other one, and names the first.
 #![tactic(auto)]
 
-mod bounds;
 pub mod branches;
 pub mod checker;
 pub mod claim;

@@ -1,6 +1,7 @@
 //! Proofs: their lines and their branches.
 use crate::claim::Claim;
 use grind_outside::List;
+use grind_polynomials::Poly;
 use grind_term_graph::{NodeId, TermTable};
 
 /// How a line follows from its premises.
@@ -43,6 +44,8 @@ pub enum Rule {
     Write,
     /// Two whole numbers that are equal have a difference that is at most 0.
     Line,
+    /// The polynomial of the difference of two whole numbers that are equal is 0.
+    Poly,
     /// Bounds, each so often, added and then divided.
     Combine {
         /// By what the sum is divided.
@@ -56,6 +59,15 @@ pub enum Rule {
     Strict,
     /// Terms that something keeps apart are different.
     Apart,
+    /// Polynomials that are 0, each times a factor, added and then divided.
+    Ideal {
+        /// By what the sum is divided.
+        divisor: i128,
+        /// The factor of each premise.
+        factors: List<Poly>,
+    },
+    /// Two whole numbers are equal where the polynomial of their difference is 0.
+    Equal,
     /// Claims that contradict each other.
     Clash,
 }

@@ -10,6 +10,7 @@ mod congruence;
 mod equality;
 mod instances;
 mod linear;
+mod polynomial;
 mod premises;
 mod truth;
 
@@ -26,6 +27,7 @@ use grind_schemes::{Goal, Lemmas};
 use grind_term_graph::TermTable;
 use instances::is_inst;
 use linear::{is_line, is_pinch, is_read, is_strict, is_write};
+use polynomial::{is_equal, is_ideal, is_poly_rule};
 use std::alloc::Global;
 use truth::{is_assumed, is_hyp, is_negated, is_truth, is_untruth};
 
@@ -33,7 +35,7 @@ use truth::{is_assumed, is_hyp, is_negated, is_truth, is_untruth};
 /// formed over the terms, and the premises are lines.
 ///
 /// # Errors
-/// `Memory` where memory was wanted and there was none. Only the rule `table` and the rules over forms take memory.
+/// `Memory` where memory was wanted and there was none. Only the rule `table` and the rules over forms and polynomials take memory.
 pub fn says(
     alloc: Global,
     lemmas: &Lemmas,
@@ -61,6 +63,13 @@ pub fn says(
             let answer = is_combine(alloc, *divisor, factors, lines, premises, claim)?;
             Ok(answer)
         }
+        Rule::Ideal { divisor, factors } => {
+            let factors = factors.as_slice();
+            let answer = is_ideal(alloc, *divisor, factors, lines, premises, claim)?;
+            Ok(answer)
+        }
+        Rule::Poly => is_poly_rule(alloc, terms, lines, premises, claim),
+        Rule::Equal => is_equal(alloc, terms, lines, premises, claim),
         Rule::Read => is_read(alloc, terms, lines, premises, claim),
         Rule::Write => is_write(alloc, terms, lines, premises, claim),
         Rule::Line => is_line(alloc, terms, lines, premises, claim),

@@ -3,11 +3,11 @@ ghost use Rattle.std.specs.Prelude.{IsTrue, ◌↔◌, ◌≡◌, ◌<◌, [], �
 ghost use Rattle.grind_linear_forms.specs.Forms.{FormData};
 ghost use Rattle.grind_proof_kernel.specs.declared.claim.Claim.TheVariants.{Same, Differ};
 ghost use Rattle.grind_proof_kernel.specs.Claims.{claims_at};
-ghost use Rattle.grind_proof_kernel.specs.LinearRules.{AreApartByReading, IsBoundOver, AreApartAlong, KeepApart, IsApart};
+ghost use Rattle.grind_proof_kernel.specs.LinearRules.{IsBoundOver, AreApartAlong, KeepApart, IsApart};
 
-use super::linear::is_more_than_difference;
+
 use super::premises::{only_premise, three_premises};
-use crate::bounds::difference;
+use grind_differences::{are_apart_by_reading, is_more_than_difference};
 use crate::claim::Claim;
 use crate::proof::Line;
 use grind_outside::Memory;
@@ -57,22 +57,6 @@ fn keep_apart(
         return Ok(is);
     }
     Ok(are_apart_along(lines, premises, a, b))
-}
-
-/// Whether the readings of the two differ by a number other than 0.
-fn are_apart_by_reading(
-    alloc: Global,
-    terms: &TermTable,
-    a: NodeId,
-    b: NodeId,
-) -> Result<bool, Memory>
-    ensures { IfOk result (λ yes. IsTrue yes ↔ AreApartByReading terms.now.nodes a b) }
-{
-    let found = difference(alloc, terms, a, b)?;
-    let Some(form) = found else {
-        return Ok(false);
-    };
-    Ok(form.parts().is_empty() && form.constant() != 0)
 }
 
 /// Whether the claim bounds more than the difference of the two.

@@ -1,17 +1,19 @@
 //! The rule of sums of bounds: combine.
-ghost use Rattle.std.specs.Prelude.{IsTrue, ◌↔◌, ◌≡◌, ◌<◌, Some, length, All, IfOk, pos, ◌≤ℤ◌, ◌<ℤ◌};
-ghost use Rattle.grind_linear_forms.specs.Cuts.{IsCut};
-ghost use Rattle.grind_linear_forms.specs.Forms.{FormData, number_form};
+ghost use Rattle.std.specs.Prelude.{IsTrue, ◌↔◌, ◌≡◌, ◌<◌, Some, length, All, IfOk, pos};
+ghost use Rattle.grind_linear_forms.specs.Forms.{number_form};
 ghost use Rattle.grind_linear_forms.specs.Sums.{scaled_sum};
 ghost use Rattle.std.specs.Option.{option_and_then};
 ghost use Rattle.grind_proof_kernel.specs.Claims.{claim_at, claims_at};
-ghost use Rattle.grind_proof_kernel.specs.LinearRules.{taken, combined, IsWithinCut, IsCombine};
+ghost use Rattle.grind_proof_kernel.specs.LinearRules.{taken, combined, IsCombine};
+ghost use Rattle.grind_differences.specs.Equations.{form_of};
+ghost use Rattle.grind_proof_kernel.specs.declared.claim.Claim.TheVariants.{AtMost};
 
-use crate::bounds::have_same_parts;
 use crate::claim::Claim;
 use crate::proof::Line;
-use grind_linear_forms::{Form, FormRefusal, add_scaled, cut, divides, one_cut};
+use grind_differences::{form_of, is_within_cut};
+use grind_linear_forms::{Form, FormRefusal, add_scaled};
 use grind_outside::Memory;
+use grind_polynomials::Poly;
 use std::alloc::Global;
 
 /// combine: the sum of the premises, each so often, divided by a positive number that divides its coefficients; the
@@ -39,36 +41,6 @@ pub fn is_combine(
     };
     let is = is_within_cut(alloc, &sum, divisor, form)?;
     Ok(is)
-}
-
-/// Whether the form has the coefficients of the sum divided by a positive number that divides them, and at most its
-/// constant.
-fn is_within_cut(
-    alloc: Global,
-    sum: &Form,
-    divisor: i128,
-    form: &Form,
-) -> Result<bool, Memory>
-    ensures { IfOk result (λ yes. IsTrue yes ↔ IsWithinCut sum.now divisor form.now) }
-{
-    one_cut();
-    if divisor < 1 {
-        return Ok(false);
-    }
-    if !divides(divisor, sum) {
-        return Ok(false);
-    }
-    match cut(alloc, sum, divisor) {
-        Ok(whole) => Ok(is_at_most(form, &whole)),
-        Err(_) => Err(Memory),
-    }
-}
-
-/// Whether the first form has the parts of the second, and at most its constant.
-fn is_at_most(form: &Form, whole: &Form) -> bool
-    ensures { IsTrue result ↔ ((form.now.parts ≡ whole.now.parts) × (form.now.constant ≤ℤ whole.now.constant)) }
-{
-    have_same_parts(form, whole) && form.constant() <= whole.constant()
 }
 
 /// The premises, each so often, added from left to right.
@@ -128,12 +100,56 @@ fn with_premise(
     ensures { IfOk result (λ found. found ≡ option_and_then (λ form. scaled_sum sum.now (pos 1) form factor)
         (taken factor (Some premise.now))) }
 {
-    let Claim::AtMost(form) = premise else {
-        return Ok(None);
-    };
+    match premise {
+        Claim::AtMost(form) => with_bound(alloc, sum, factor, form),
+        Claim::Zero(poly) => with_equation(alloc, sum, factor, poly),
+        _ => Ok(None),
+    }
+}
+
+/// The sum, and the bound so often, where that is not negative.
+fn with_bound(
+    alloc: Global,
+    sum: &Form,
+    factor: i128,
+    form: &Form,
+) -> Result<Option<Form>, Memory>
+    ensures { IfOk result (λ found. found ≡ option_and_then (λ form. scaled_sum sum.now (pos 1) form factor)
+        (taken factor (Some (AtMost form.now)))) }
+{
     if factor < 0 {
         return Ok(None);
     }
+    let found = with_form(alloc, sum, factor, form)?;
+    Ok(found)
+}
+
+/// The sum, and the equation so often, where its degree is at most 1.
+fn with_equation(
+    alloc: Global,
+    sum: &Form,
+    factor: i128,
+    poly: &Poly,
+) -> Result<Option<Form>, Memory>
+    ensures { IfOk result (λ found. found ≡ option_and_then (λ form. scaled_sum sum.now (pos 1) form factor) (form_of poly.now)) }
+{
+    let linear = form_of(alloc, poly)?;
+    let Some(form) = linear else {
+        return Ok(None);
+    };
+    let found = with_form(alloc, sum, factor, &form)?;
+    Ok(found)
+}
+
+/// The sum, and the form so often.
+fn with_form(
+    alloc: Global,
+    sum: &Form,
+    factor: i128,
+    form: &Form,
+) -> Result<Option<Form>, Memory>
+    ensures { IfOk result (λ found. found ≡ scaled_sum sum.now (pos 1) form.now factor) }
+{
     match add_scaled(alloc, sum, 1, form, factor) {
         Ok(next) => Ok(Some(next)),
         Err(FormRefusal::Overflow) => Ok(None),

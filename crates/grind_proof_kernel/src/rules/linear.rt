@@ -1,13 +1,15 @@
 //! The rules over linear forms: read, write, line, pinch and strict.
 ghost use Rattle.std.specs.Prelude.{IsTrue, ◌↔◌, ◌≡◌, ◌<◌, ◌⊎◌, ℕ, [], ◌∷◌, Some, length, All, IfOk, IfSome, IfNone, pos};
-ghost use Rattle.grind_proof_kernel.specs.Bounds.{difference};
+ghost use Rattle.grind_differences.specs.Differences.{difference, IsDifferencePlus, IsDifferenceOver};
 ghost use Rattle.grind_proof_kernel.specs.Claims.{claims_at};
-ghost use Rattle.grind_proof_kernel.specs.LinearRules.{IsComparison, IsDifferencePlus, IsDifferenceOver, Compares, IsRead, IsWrite, IsLine, IsPinch, IsStrict};
+ghost use Rattle.grind_proof_kernel.specs.LinearRules.{IsComparison, Compares, IsRead, IsWrite, IsLine, IsPinch, IsStrict};
 
 use super::premises::{only_premise, two_premises};
-use crate::bounds::{difference, is_above, is_at_least, is_plus_one, is_same_form};
 use crate::claim::Claim;
 use crate::proof::Line;
+use grind_differences::{
+    is_difference, is_difference_or_more, is_difference_plus_one, is_more_than_difference, is_plus_one,
+};
 use grind_linear_forms::Form;
 use grind_outside::Memory;
 use grind_term_graph::{Head, NodeId, TermTable};
@@ -161,74 +163,6 @@ fn two_sides(args: &[NodeId]) -> Option<(NodeId, NodeId)>
         return None;
     };
     Some((*first, *second))
-}
-
-/// Whether the form is the reading of the first less that of the second.
-pub fn is_difference(
-    alloc: Global,
-    terms: &TermTable,
-    a: NodeId,
-    b: NodeId,
-    form: &Form,
-) -> Result<bool, Memory>
-    ensures { IfOk result (λ yes. IsTrue yes ↔ (difference terms.now.nodes a b ≡ Some form.now)) }
-{
-    let found = difference(alloc, terms, a, b)?;
-    let Some(base) = found else {
-        return Ok(false);
-    };
-    Ok(is_same_form(&base, form))
-}
-
-/// Whether the form is that and 1.
-fn is_difference_plus_one(
-    alloc: Global,
-    terms: &TermTable,
-    a: NodeId,
-    b: NodeId,
-    form: &Form,
-) -> Result<bool, Memory>
-    ensures { IfOk result (λ yes. IsTrue yes ↔ IsDifferencePlus terms.now.nodes a b (pos 1) form.now) }
-{
-    let found = difference(alloc, terms, a, b)?;
-    let Some(base) = found else {
-        return Ok(false);
-    };
-    Ok(is_plus_one(&base, form))
-}
-
-/// Whether the form is that and a number that is not negative.
-fn is_difference_or_more(
-    alloc: Global,
-    terms: &TermTable,
-    a: NodeId,
-    b: NodeId,
-    form: &Form,
-) -> Result<bool, Memory>
-    ensures { IfOk result (λ yes. IsTrue yes ↔ IsDifferenceOver terms.now.nodes a b (pos 0) form.now) }
-{
-    let found = difference(alloc, terms, a, b)?;
-    let Some(base) = found else {
-        return Ok(false);
-    };
-    Ok(is_at_least(&base, form))
-}
-
-/// Whether the form is that and a number of at least 1.
-pub fn is_more_than_difference(
-    alloc: Global,
-    terms: &TermTable,
-    a: NodeId,
-    b: NodeId,
-    form: &Form,
-) -> Result<bool, Memory>
-    ensures { IfOk result (λ yes. IsTrue yes ↔ IsDifferenceOver terms.now.nodes a b (pos 1) form.now) }
-{
-    let found = difference(alloc, terms, a, b)?;
-    let Some(base) = found else {
-        return Ok(false);
-    };
-    Ok(is_above(&base, form))
 }
 
 /// line: the difference of two whole numbers that are equal is at most 0.

@@ -4,9 +4,9 @@ ghost use Rattle.grind_proof_kernel.specs.Claims.{claims_at};
 ghost use Rattle.grind_proof_kernel.specs.Rules.{IsHyp, IsNegated, IsAssumed, IsTruth, IsUntruth};
 
 use super::premises::only_premise;
-use crate::bounds::is_same_form;
 use crate::claim::Claim;
 use crate::proof::Line;
+use grind_differences::{is_same_form, is_same_poly};
 use grind_schemes::Goal;
 use grind_term_graph::NodeId;
 
@@ -61,6 +61,7 @@ fn is_same_claim(one: &Claim, other: &Claim) -> bool
         Claim::Same(a, b) => matches!(other, Claim::Same(c, d) if a == c && b == d),
         Claim::Differ(a, b) => matches!(other, Claim::Differ(c, d) if a == c && b == d),
         Claim::AtMost(form) => matches!(other, Claim::AtMost(same) if is_same_form(form, same)),
+        Claim::Zero(poly) => matches!(other, Claim::Zero(same) if is_same_poly(poly, same)),
         Claim::Absurd => matches!(other, Claim::Absurd),
     }
 }

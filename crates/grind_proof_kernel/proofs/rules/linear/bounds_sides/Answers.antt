@@ -1,5 +1,5 @@
 use Rattle.std.proofs.Common.{ℕ, ◌≡◌, Some, pos}
-use Rattle.grind_proof_kernel.specs.Bounds.{difference}
+use Rattle.grind_differences.specs.Differences.{difference}
 use Rattle.grind_proof_kernel.proofs.BoundLemmas.{compared, not_compared}
 use Rattle.grind_proof_kernel.proofs.rules.linear.bounds_sides.Goals as goal
 

@@ -1,14 +1,11 @@
-//! Linear forms as bounds: their opposites, and the differences of terms.
-ghost use Rattle.std.specs.Prelude.{IsTrue, ◌↔◌, ◌≡◌, All, map, IfOk, pos, negsuc, ◌+ℤ◌, neg_ℤ, FitsSigned};
+//! Linear forms as bounds: their opposites, what is over them, and their cuts.
+ghost use Rattle.std.specs.Prelude.{IsTrue, ◌↔◌, ◌≡◌, All, map, IfOk, pos, ◌+ℤ◌, neg_ℤ, ◌≤ℤ◌, FitsSigned};
 ghost use Rattle.std.specs.Int.{w128};
 ghost use Rattle.grind_linear_forms.specs.declared.form.Part.{Part as PartData};
-ghost use Rattle.grind_linear_forms.specs.Sums.{scaled_sum};
-ghost use Rattle.grind_proof_kernel.specs.Bounds.{negated_part, opposite_form, HasOpposite, plus, IsOver, reading, difference};
+ghost use Rattle.grind_differences.specs.Bounds.{negated_part, opposite_form, HasOpposite, plus, IsOver, IsWithinCut};
 
-use crate::claim::is_number;
-use grind_linear_forms::{Form, FormRefusal, Part, add_scaled, linear_of};
+use grind_linear_forms::{Form, Part, cut, divides, one_cut};
 use grind_outside::Memory;
-use grind_term_graph::{NodeId, TermTable};
 use std::alloc::Global;
 
 /// Whether the form has an opposite: each number of 1 less the form fits in 128 bits.
@@ -156,54 +153,35 @@ fn is_same_part(part: Part, other: Part) -> bool
     part == other
 }
 
-/// The reading of a whole number, where it is defined.
+/// Whether the form has the coefficients of the sum divided by a positive number that divides them, and at most its
+/// constant.
 ///
 /// # Errors
 /// `Memory` where memory was wanted and there was none.
-fn reading(alloc: Global, terms: &TermTable, node: NodeId) -> Result<Option<Form>, Memory>
-    ensures { IfOk result (λ found. found ≡ reading terms.now.nodes node) }
-{
-    if !is_number(terms, node) {
-        return Ok(None);
-    }
-    match linear_of(alloc, terms, node) {
-        Ok(form) => Ok(Some(form)),
-        Err(FormRefusal::Overflow) => Ok(None),
-        Err(FormRefusal::Memory) => Err(Memory),
-    }
-}
-
-/// The reading of the first node less that of the second, where it is defined.
-///
-/// # Errors
-/// `Memory` where memory was wanted and there was none.
-pub fn difference(
+pub fn is_within_cut(
     alloc: Global,
-    terms: &TermTable,
-    a: NodeId,
-    b: NodeId,
-) -> Result<Option<Form>, Memory>
-    ensures { IfOk result (λ found. found ≡ difference terms.now.nodes a b) }
+    sum: &Form,
+    divisor: i128,
+    form: &Form,
+) -> Result<bool, Memory>
+    ensures { IfOk result (λ yes. IsTrue yes ↔ IsWithinCut sum.now divisor form.now) }
 {
-    let first = reading(alloc, terms, a)?;
-    let Some(left) = first else {
-        return Ok(None);
-    };
-    let second = reading(alloc, terms, b)?;
-    let Some(right) = second else {
-        return Ok(None);
-    };
-    let found = less(alloc, &left, &right)?;
-    Ok(found)
+    one_cut();
+    if divisor < 1 {
+        return Ok(false);
+    }
+    if !divides(divisor, sum) {
+        return Ok(false);
+    }
+    match cut(alloc, sum, divisor) {
+        Ok(whole) => Ok(is_at_most(form, &whole)),
+        Err(_) => Err(Memory),
+    }
 }
 
-/// The first form less the second, where it is defined.
-fn less(alloc: Global, left: &Form, right: &Form) -> Result<Option<Form>, Memory>
-    ensures { IfOk result (λ found. found ≡ scaled_sum left.now (pos 1) right.now (negsuc 0)) }
+/// Whether the first form has the parts of the second, and at most its constant.
+fn is_at_most(form: &Form, whole: &Form) -> bool
+    ensures { IsTrue result ↔ ((form.now.parts ≡ whole.now.parts) × (form.now.constant ≤ℤ whole.now.constant)) }
 {
-    match add_scaled(alloc, left, 1, right, -1) {
-        Ok(form) => Ok(Some(form)),
-        Err(FormRefusal::Overflow) => Ok(None),
-        Err(FormRefusal::Memory) => Err(Memory),
-    }
+    have_same_parts(form, whole) && form.constant() <= whole.constant()
 }

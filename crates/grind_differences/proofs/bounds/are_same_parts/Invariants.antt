@@ -1,5 +1,5 @@
 use Rattle.std.proofs.Common.{◌≡◌, ◌↔◌, length}
-use Rattle.grind_proof_kernel.proofs.bounds.are_same_parts.Given as goal
+use Rattle.grind_differences.proofs.bounds.are_same_parts.Given as goal
 
 -- what is left says the same as the whole
 abbrev pub invariant-loop-part : goal.invariant-loop-part

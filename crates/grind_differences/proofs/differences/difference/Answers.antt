@@ -1,6 +1,6 @@
 use Rattle.std.proofs.Common.{sym, ◌∙◌}
-use Rattle.grind_proof_kernel.proofs.BoundLemmas.{difference-left, difference-right, difference-from}
-use Rattle.grind_proof_kernel.proofs.bounds.difference.Goals as goal
+use Rattle.grind_differences.proofs.BoundLemmas.{difference-left, difference-right, difference-from}
+use Rattle.grind_differences.proofs.differences.difference.Goals as goal
 
 pub returns-in_default : goal.returns-in_default
 returns-in_default c =

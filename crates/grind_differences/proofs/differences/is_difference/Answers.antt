@@ -1,7 +1,7 @@
 use Rattle.std.proofs.Common.{◌≡◌, sym, ◌∙◌, pos}
 use Rattle.grind_linear_forms.specs.Forms.{FormData}
-use Rattle.grind_proof_kernel.proofs.BoundLemmas.{is_no_base, is_base}
-use Rattle.grind_proof_kernel.proofs.rules.linear.is_difference.Goals as goal
+use Rattle.grind_differences.proofs.BoundLemmas.{is_no_base, is_base}
+use Rattle.grind_differences.proofs.differences.is_difference.Goals as goal
 
 pub returns-in_default : goal.returns-in_default
 returns-in_default c =

@@ -1,6 +1,6 @@
 use Rattle.std.proofs.Common.{◌≡◌, ◌↔◌, length, map}
-use Rattle.grind_proof_kernel.specs.Bounds.{negated_part}
-use Rattle.grind_proof_kernel.proofs.bounds.are_negated.Given as goal
+use Rattle.grind_differences.specs.Bounds.{negated_part}
+use Rattle.grind_differences.proofs.bounds.are_negated.Given as goal
 
 -- what is left says the same as the whole
 abbrev pub invariant-loop-part : goal.invariant-loop-part

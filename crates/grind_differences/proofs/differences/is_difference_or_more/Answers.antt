@@ -1,8 +1,8 @@
 use Rattle.std.proofs.Common.{◌≡◌, sym, ◌∙◌, pos}
 use Rattle.grind_linear_forms.specs.Forms.{FormData}
-use Rattle.grind_proof_kernel.specs.Bounds.{IsOver}
-use Rattle.grind_proof_kernel.proofs.BoundLemmas.{no_difference, by_difference}
-use Rattle.grind_proof_kernel.proofs.rules.linear.is_difference_or_more.Goals as goal
+use Rattle.grind_differences.specs.Bounds.{IsOver}
+use Rattle.grind_differences.proofs.BoundLemmas.{no_difference, by_difference}
+use Rattle.grind_differences.proofs.differences.is_difference_or_more.Goals as goal
 
 pub returns-in_default : goal.returns-in_default
 returns-in_default c =

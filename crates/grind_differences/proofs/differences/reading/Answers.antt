@@ -2,9 +2,9 @@ use Rattle.std.proofs.Common.{rules, ◌≡◌, Some, None, IsErrOf, true≢fals
 use Rattle.grind_term_graph.specs.Terms.{int, sort_at}
 use Rattle.grind_linear_forms.specs.declared.form.FormRefusal.{FormRefusal}
 use Rattle.grind_linear_forms.specs.declared.form.FormRefusal.TheVariants as refusal
-use Rattle.grind_proof_kernel.specs.Bounds.{reading}
-use Rattle.grind_proof_kernel.proofs.BoundLemmas.{reading-number, reading-other}
-use Rattle.grind_proof_kernel.proofs.bounds.reading.Goals as goal
+use Rattle.grind_differences.specs.Bounds.{reading}
+use Rattle.grind_differences.proofs.BoundLemmas.{reading-number, reading-other}
+use Rattle.grind_differences.proofs.differences.reading.Goals as goal
 
 pub returns-then-not-is_number : goal.returns-then-not-is_number
 returns-then-not-is_number c =

@@ -1,0 +1,4 @@
+pub mod Bounds
+pub mod Differences
+pub mod Equations
+pub mod Laws
