@@ -1,6 +1,6 @@
 use Rattle.std.proofs.Common.{[], ap, sym, ◌∙◌, append-nil}
 use Rattle.grind_term_graph.specs.Terms.{Terms}
-use Rattle.grind_bench.proofs.chain.Goals as goal
+use Rattle.grind_bench.proofs.chains.chain.Goals as goal
 
 pub returns : goal.returns
 returns c = (
