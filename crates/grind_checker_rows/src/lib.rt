@@ -1,5 +1,9 @@
-//! The checker on whole proofs, compared with what it must answer.
+//! The checker on whole proofs, compared with what it must answer. Lines are kept as the text of a report.
 #![tactic(auto)]
+
+pub mod made_proof;
+pub mod spelled;
+pub mod terms;
 
 #[cfg(test)]
 mod branch_tests;
@@ -15,5 +19,3 @@ mod parallel_tests;
 mod rule_tests;
 #[cfg(test)]
 mod signature_tests;
-#[cfg(test)]
-mod spelled;

@@ -114,24 +114,25 @@ fn is_whole(branches: &[Branch], lines: &[Line], branch: u32, after: u32) -> boo
     stands_behind(lines, branch, after) && (is_parent(branches, branch) || is_closed(lines, branch))
 }
 
-/// Whether each line of the branch stands at that line or behind it.
+/// Whether each line of the branch stands at that line or behind it: no line before it is one of the branch.
 fn stands_behind(lines: &[Line], branch: u32, after: u32) -> bool
     ensures { IsTrue result ↔ StandsBehind lines.now branch after }
 {
-    for i in 0..lines.len() {
-        if lines[i].branch == branch && i < after as usize {
+    let end = lines.len().min(after as usize);
+    for i in 0..end {
+        if lines[i].branch == branch {
             return false;
         }
     }
     true
 }
 
-/// Whether each line of the branch stands before that line.
+/// Whether each line of the branch stands before that line: no line from it on is one of the branch.
 fn stands_before(lines: &[Line], branch: u32, after: u32) -> bool
     ensures { IsTrue result ↔ StandsBefore lines.now branch after }
 {
-    for i in 0..lines.len() {
-        if lines[i].branch == branch && i >= after as usize {
+    for i in after as usize..lines.len() {
+        if lines[i].branch == branch {
             return false;
         }
     }

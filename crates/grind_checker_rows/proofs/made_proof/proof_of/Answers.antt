@@ -1,6 +1,6 @@
 use Rattle.std.proofs.Common.{[], ap, sym, ◌∙◌, append-nil}
 use Rattle.grind_term_graph.specs.Terms.{Terms}
-use Rattle.grind_checker_rows.proofs.checker_tests.proof_of.Goals as goal
+use Rattle.grind_checker_rows.proofs.made_proof.proof_of.Goals as goal
 
 pub returns : goal.returns
 returns c = (

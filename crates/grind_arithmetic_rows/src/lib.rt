@@ -1,0 +1,7 @@
+//! The checker on lines by the rules over forms, polynomials and theorems, compared with what it must answer.
+#![tactic(auto)]
+
+#[cfg(test)]
+mod line_tests;
+#[cfg(test)]
+mod proof_tests;
