@@ -57,10 +57,13 @@ IsPremiseCount (rules.Table free) count = Unit {0}
 IsPremiseCount rules.Read count = count ≡ 1
 IsPremiseCount rules.Write count = count ≡ 1
 IsPremiseCount rules.Line count = count ≡ 1
+IsPremiseCount rules.Poly count = count ≡ 1
 IsPremiseCount (rules.Combine divisor factors) count = count ≡ length factors
 IsPremiseCount rules.Pinch count = count ≡ 2
 IsPremiseCount rules.Strict count = count ≡ 2
 IsPremiseCount rules.Apart count = (count ≡ 0) ⊎ ((count ≡ 1) ⊎ (count ≡ 3))
+IsPremiseCount (rules.Ideal divisor factors) count = count ≡ length factors
+IsPremiseCount rules.Equal count = count ≡ 1
 IsPremiseCount rules.Clash count = (count ≡ 1) ⊎ (count ≡ 2)
 
 -- a typed line has as many premises as its rule asks for
