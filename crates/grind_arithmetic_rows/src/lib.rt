@@ -2,6 +2,8 @@
 #![tactic(auto)]
 
 #[cfg(test)]
+mod instance_tests;
+#[cfg(test)]
 mod line_tests;
 #[cfg(test)]
 mod proof_tests;
