@@ -1,19 +1,17 @@
 -- Readings of whole numbers, and their differences.
-use Rattle.std.proofs.Common.{◌≡◌, ◌↔◌, ℕ, zero, suc, ◌<◌, List, [], ◌∷◌, ◌++◌, length, map, Option, Some, None, Bool, true, false, true≢false, cond, refl, sym, ap, ◌∙◌, subst, arith, inl, inr, ℤ, pos, negsuc, neg_ℤ, ◌+ℤ◌}
+use Rattle.std.proofs.Common.{◌≡◌, ◌↔◌, ℕ, zero, suc, ◌<◌, List, [], ◌∷◌, ◌++◌, length, Option, Some, None, Bool, true, false, true≢false, cond, refl, sym, ap, ◌∙◌, subst, ℤ, pos, negsuc}
 use Rattle.std.specs.Prelude.{IsTrue, nat_eq, slice_get}
-use Rattle.std.specs.Option.{IsSomeAnd, option_and_then, option_map}
+use Rattle.std.specs.Option.{option_and_then, option_map}
 use Rattle.std.proofs.lemmas.Bool.{ne_eqb}
 use Rattle.std.proofs.lemmas.Bool.Decides.{Decides-eqb}
 use Rattle.std.proofs.lemmas.Option.{same_Some, none-some, slice_get_within}
-use Rattle.grind_term_graph.specs.declared.head.Head.TheVariants as head
 use Rattle.grind_term_graph.specs.declared.node.Node.{Node}
 use Rattle.grind_term_graph.specs.Terms.{int, sort_at}
 use Rattle.grind_linear_forms.specs.declared.form.Part.{Part}
-use Rattle.grind_linear_forms.specs.Forms.{FormData, form_data, part_of}
+use Rattle.grind_linear_forms.specs.Forms.{FormData, form_data}
 use Rattle.grind_linear_forms.specs.Sums.{scaled_sum}
 use Rattle.grind_linear_forms.specs.Readings.{linear}
 use Rattle.grind_linear_forms.specs.Laws.{ReadingsStay}
-use Rattle.grind_differences.specs.Bounds.{negated_part, opposite_form, plus}
 use Rattle.grind_differences.specs.Differences.{is_number_sort, reading, difference}
 
 -- what a step behind an option gives, its value gave

@@ -8,7 +8,7 @@ use Rattle.std.proofs.lemmas.Option.{none-some, same_Some}
 use lib.IntN.{+ℤ_idl}
 use Rattle.grind_linear_forms.specs.declared.form.Part.{Part}
 use Rattle.grind_linear_forms.specs.Forms.{FormData, form_data, part_of, number_form, RisesFrom, IsForm}
-use Rattle.grind_monomials.specs.declared.order.Place.TheVariants.{Above, Same, Below}
+use Rattle.grind_monomials.specs.declared.order.Place.TheVariants.{Above}
 use Rattle.grind_monomials.specs.Order.{place}
 use Rattle.grind_monomials.proofs.Clauses.{nodes-end}
 use Rattle.grind_monomials.proofs.Orders.{above-is, same-not_above, below-not_above, more, same}

@@ -1,5 +1,5 @@
 -- Readings of whole numbers as polynomials, and their differences.
-use Rattle.std.proofs.Common.{◌≡◌, ◌↔◌, ℕ, ◌<◌, List, [], ◌∷◌, ◌++◌, Option, Some, None, Bool, true, false, true≢false, cond, refl, sym, ap, ◌∙◌, pos, negsuc}
+use Rattle.std.proofs.Common.{◌≡◌, ◌↔◌, ℕ, List, ◌++◌, Option, Some, None, Bool, true, false, true≢false, cond, refl, sym, ap, ◌∙◌}
 use Rattle.std.specs.Prelude.{IsTrue, nat_eq, slice_get}
 use Rattle.std.specs.Option.{option_and_then}
 use Rattle.std.proofs.lemmas.Bool.Decides.{Decides-eqb}

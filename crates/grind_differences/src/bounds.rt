@@ -158,12 +158,7 @@ fn is_same_part(part: Part, other: Part) -> bool
 ///
 /// # Errors
 /// `Memory` where memory was wanted and there was none.
-pub fn is_within_cut(
-    alloc: Global,
-    sum: &Form,
-    divisor: i128,
-    form: &Form,
-) -> Result<bool, Memory>
+pub fn is_within_cut(alloc: Global, sum: &Form, divisor: i128, form: &Form) -> Result<bool, Memory>
     ensures { IfOk result (λ yes. IsTrue yes ↔ IsWithinCut sum.now divisor form.now) }
 {
     if !is_positive(divisor) {

@@ -16,7 +16,9 @@ use std::alloc::Global;
 pub fn multiplies_numbers(terms: &TermTable, poly: &Poly) -> bool
     ensures { IsTrue result ↔ MultipliesNumbers terms.now.nodes poly.now }
 {
-    poly.terms().iter().all(|term| are_numbers(terms, term.monomial.as_slice()))
+    poly.terms()
+        .iter()
+        .all(|term| are_numbers(terms, term.monomial.as_slice()))
 }
 
 /// Whether each of the nodes is a whole number of the table.
@@ -153,12 +155,18 @@ fn form_of_terms(alloc: Global, terms: &[Term]) -> Result<Option<Form>, Memory>
     let mut rest = terms;
     while let Some((term, tail)) = rest.split_first() {
         let Some((node, more)) = term.monomial.as_slice().split_first() else {
-            return Ok(Some(Form { parts, constant: term.coefficient }));
+            return Ok(Some(Form {
+                parts,
+                constant: term.coefficient,
+            }));
         };
         if !more.is_empty() {
             return Ok(None);
         }
-        parts.push(Part { coefficient: term.coefficient, node: *node })?;
+        parts.push(Part {
+            coefficient: term.coefficient,
+            node: *node,
+        })?;
         rest = tail;
     }
     Ok(Some(Form { parts, constant: 0 }))

@@ -34,17 +34,14 @@ pub fn poly_differences_stay()
 /// The opposite of a form has 1 less the value of the form.
 pub fn opposites_have_their_values()
     ensures { laws.OppositesHaveTheirValues }
-{
-}
+{}
 
 /// k times a polynomial has k times its value.
 pub fn multiples_have_their_values()
     ensures { laws.MultiplesHaveTheirValues }
-{
-}
+{}
 
 /// A polynomial has the value of its linear form.
 pub fn forms_of_polys_have_their_values()
     ensures { laws.FormsOfPolysHaveTheirValues }
-{
-}
+{}

@@ -1,7 +1,7 @@
-use Rattle.std.proofs.Common.{rules, arith, ◌<ℤ◌, pos, true≢false, sym, ◌∙◌}
+use Rattle.std.proofs.Common.{rules, ◌<ℤ◌, pos, true≢false, sym, ◌∙◌}
 use Rattle.std.specs.Int.{w128}
 use Rattle.std.proofs.lemmas.Int.{to_z-of_z}
-use Rattle.grind_linear_forms.specs.Cuts.{DividesAll, IsCut}
+use Rattle.grind_linear_forms.specs.Cuts.{IsCut}
 use Rattle.grind_differences.proofs.CutLemmas.{no_divisor, no_cut, by_cut}
 use Rattle.grind_differences.proofs.bounds.is_within_cut.Goals as goal
 

@@ -1,6 +1,4 @@
-use Rattle.std.proofs.Common.{rules, ◌≡◌, Some, None, IsErrOf, true≢false, sym, ◌∙◌}
-use Rattle.grind_term_graph.specs.Terms.{int, sort_at}
-use Rattle.grind_polynomials.specs.declared.poly.PolyRefusal.{PolyRefusal}
+use Rattle.std.proofs.Common.{rules, ◌≡◌, None, IsErrOf, true≢false, sym, ◌∙◌}
 use Rattle.grind_polynomials.specs.declared.poly.PolyRefusal.TheVariants as refusal
 use Rattle.grind_differences.specs.Differences.{poly_reading}
 use Rattle.grind_differences.proofs.PolyLemmas.{poly_reading-number, poly_reading-other}

@@ -1,4 +1,4 @@
-use Rattle.std.proofs.Common.{◌≡◌, length}
+use Rattle.std.proofs.Common.{length}
 use Rattle.grind_polynomials.specs.Polynomials.{IsPoly}
 use Rattle.grind_differences.proofs.FormLemmas.{IsSoFar}
 use Rattle.grind_differences.proofs.equations.form_of_terms.Given as goal
