@@ -7,7 +7,6 @@ mod content;
 pub mod factors;
 mod gathering;
 pub mod laws;
-mod marking;
 mod multiples;
 mod numbers;
 pub mod pairs;
