@@ -1,14 +1,15 @@
 //! Terms read as linear forms.
 ghost use Rattle.std.specs.Prelude.{◌≡◌, ◌<◌, All, length, slice_get, Some, None, IfOk, IsErrOf, pos, negsuc};
 ghost use Rattle.grind_term_graph.specs.Terms.{int, sort_at};
-ghost use Rattle.grind_linear_forms.specs.Marks.{IsMarked, HasMarkedArguments, AreRead};
+ghost use Rattle.grind_reach.specs.Marks.{IsMarked, HasMarkedArguments};
+ghost use Rattle.grind_linear_forms.specs.Marks.{ServesReading, AreRead};
 ghost use Rattle.grind_linear_forms.specs.Readings.{linear, of_one, of_two, product_form, reading_of};
 ghost use Rattle.grind_linear_forms.specs.Sums.{scaled_form, scaled_sum};
 
 use crate::form::{Form, FormRefusal};
-use crate::marking::{is_marked, needed_nodes};
 use crate::sum::{add_scaled, scale};
 use grind_outside::{List, Memory};
+use grind_reach::{arguments_stand_before, is_marked, needed_nodes};
 use grind_term_graph::{Head, Node, NodeId, TermTable};
 use std::alloc::Global;
 
@@ -22,7 +23,7 @@ pub fn linear_of(alloc: Global, table: &TermTable, id: NodeId) -> Result<Form, F
     ensures ok { IfOk result (λ form. linear table.now.nodes id ≡ Some form) }
     ensures overflow { IsErrOf result FormRefusal.Overflow → linear table.now.nodes id ≡ None }
 {
-    let needed = needed_nodes(alloc, table, id)?;
+    let needed = marks_for(alloc, table, id)?;
     let mut forms = List::new(alloc);
     for number in 0..id.number() {
         let node = NodeId::new(number);
@@ -31,6 +32,16 @@ pub fn linear_of(alloc: Global, table: &TermTable, id: NodeId) -> Result<Form, F
     }
     let form = read_needed(alloc, table, needed.as_slice(), id, forms.as_slice())?;
     Ok(form)
+}
+
+// Marks of the root and the nodes that its reading needs.
+fn marks_for(alloc: Global, table: &TermTable, root: NodeId) -> Result<List<bool>, Memory>
+    requires { root < length table.now.nodes }
+    ensures { IfOk result (λ marks. ServesReading table.now.nodes root marks) }
+{
+    arguments_stand_before(table);
+    let marks = needed_nodes(alloc, table, root)?;
+    Ok(marks)
 }
 
 // The reading of a node, where it is needed, from those of the nodes before it. A node that is not needed is not read.

@@ -1,68 +1,22 @@
--- Which nodes are marked.
-use Rattle.std.proofs.Common.{◌≡◌, ◌⊎◌, inl, inr, ℕ, suc, ◌<◌, Bool, true, List, [], ◌∷◌, ◌++◌, length, Some, slice_get, All, Contains, arith, sym, ap, ◌∙◌, subst}
+-- The readings of the nodes that a reading needs.
+use Rattle.std.proofs.Common.{◌≡◌, inl, inr, ℕ, ◌<◌, Bool, List, [], ◌∷◌, ◌++◌, length, Some, None, slice_get, All, Contains, arith, sym, ap, ◌∙◌, subst}
 use Rattle.std.proofs.lemmas.Bool.{cases_order}
-use Rattle.std.proofs.lemmas.List.Elements.{All-weaker, All-contains}
-use Rattle.std.proofs.lemmas.Option.{same_Some}
+use Rattle.grind_lemmas.proofs.Lists.{get-before, get-at, length-push}
 use Rattle.grind_term_graph.specs.declared.node.Node.{Node}
-use Rattle.grind_linear_forms.specs.Marks.{reads_arguments, IsMarked, HasMarkedArguments}
-use Rattle.grind_linear_forms.proofs.ReadingLemmas.{get-before, get-at, length-push}
+use Rattle.grind_reach.specs.Reached.{Reaches, itself, argument, HaveEarlierArguments}
+use Rattle.grind_reach.specs.Marks.{IsMarked, HasMarkedArguments}
 use Rattle.grind_polynomials.specs.declared.poly.Term.{Term}
 use Rattle.grind_polynomials.specs.Readings.{reading_of, polynomial}
-use Rattle.grind_polynomials.specs.Marks.{Spoils, IsMarking, AreRead}
+use Rattle.grind_polynomials.specs.Marks.{AreRead}
 use Rattle.grind_polynomials.proofs.ReadingLemmas.{polynomial-at, reading-agrees, reading-strict}
 
--- ---- the marking of what a reading needs
-module _ (nodes : List Node) (root n : ℕ) (node : Node) (is : slice_get nodes n ≡ Some node) (lower : All (λ arg. arg < n) node.args) where
-  -- an argument without a reading spoils the node
-  argument-spoils : (a : ℕ) → reads_arguments node.head ≡ true → Contains node.args a → Spoils nodes root n → Spoils nodes root a
-  argument-spoils a reads among spoils none =
-      spoils (polynomial-at nodes n node is lower ∙ reading-strict (polynomial nodes) n a none node.head node.args reads among)
-
-  pub marking-more : (old new : List Bool) → IsMarked old n → length new ≡ length old → ((k : ℕ) → IsMarked old k → IsMarked new k)
-      → (reads_arguments node.head ≡ true → All (IsMarked new) node.args)
-      → ((k : ℕ) → IsMarked new k → IsMarked old k ⊎ ((reads_arguments node.head ≡ true) × Contains node.args k))
-      → IsMarking nodes root old (suc n) → IsMarking nodes root new n
-  marking-more old new marked size kept args only marking =
-      let old_size = marking.size in record {
-        size = omega arith;
-        top = kept root marking.top;
-        needed = λ k h. elim (only k h) [
-          | inl before ↦ marking.needed k before
-          | inr by ↦ argument-spoils k by.0 by.1 (marking.needed n marked)
-        ];
-        closed = λ k from other here h reads. elim (cases_order k n) [
-          | inl same ↦
-              let one : node ≡ other = same_Some node other (sym is ∙ ap (slice_get nodes) (sym same) ∙ here) in
-              subst (λ (node : Node). All (IsMarked new) node.args) one (args (ap (λ (node : Node). reads_arguments node.head) one ∙ reads))
-          | inr (inl below) ↦ absurd (omega arith)
-          | inr (inr above) ↦ elim (only k h) [
-            | inl before ↦ All-weaker (IsMarked old) (IsMarked new) kept other.args (marking.closed k (omega arith) other here before reads)
-            | inr by ↦ let small : k < n = All-contains (λ arg. arg < n) node.args k lower by.1 in absurd (omega arith)
-          ]
-        ];
-      }
-
-pub marking-same : (nodes : List Node) (root n : ℕ) (marks : List Bool) → (IsMarked marks n → ⊥) → IsMarking nodes root marks (suc n)
-    → IsMarking nodes root marks n
-marking-same nodes root n marks unmarked marking = record {
-  size = marking.size;
-  top = marking.top;
-  needed = marking.needed;
-  closed = λ k from other here h reads. elim (cases_order k n) [
-    | inl same ↦ absurd (unmarked (subst (IsMarked marks) same h))
-    | inr (inl below) ↦ absurd (omega arith)
-    | inr (inr above) ↦ marking.closed k (omega arith) other here h reads
-  ];
-}
-
-pub marking-begins : (nodes : List Node) (root : ℕ) (marks : List Bool) → length marks ≡ suc root
-    → ((n : ℕ) → IsMarked marks n → n ≡ root) → IsMarked marks root → IsMarking nodes root marks (suc root)
-marking-begins nodes root marks size only last = record {
-  size = size;
-  top = last;
-  needed = λ n h none. ap (polynomial nodes) (sym (only n h)) ∙ none;
-  closed = λ k from other here h reads. let same = only k h in absurd (omega arith);
-}
+-- where a node that the root needs has no reading, neither has the root
+pub needed-undefined : (nodes : List Node) (root n : ℕ) → HaveEarlierArguments nodes → Reaches nodes root n → polynomial nodes n ≡ None
+    → polynomial nodes root ≡ None
+needed-undefined nodes root n earlier itself none = none
+needed-undefined nodes root a earlier (argument {n} node reached is reads among) none =
+    needed-undefined nodes root n earlier reached
+    (polynomial-at nodes n node is (earlier n node is) ∙ reading-strict (polynomial nodes) n a none node.head node.args reads among)
 
 -- ---- the readings of marked nodes
 pub read-needed : (nodes : List Node) (marks : List Bool) (polys : List (List Term)) (n : ℕ) (node : Node) → slice_get nodes n ≡ Some node

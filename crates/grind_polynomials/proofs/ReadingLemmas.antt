@@ -5,13 +5,13 @@ use Rattle.std.proofs.lemmas.Bool.{cases_Bool, cases_order, cond-true, cond-fals
 use Rattle.std.proofs.lemmas.List.Elements.{All-head, All-tail}
 use Rattle.std.proofs.lemmas.Option.{none-some, same_Some, slice_get_past}
 use borrow.Author.Differences.{ints}
+use Rattle.grind_lemmas.proofs.Lists.{get-before, get-at, length-push, contains-cases}
 use Rattle.grind_lemmas.proofs.Rings.{linear as linear_facts}
 use Rattle.grind_term_graph.specs.declared.head.Head.{Head}
 use Rattle.grind_term_graph.specs.declared.head.Head.TheVariants as head
 use Rattle.grind_term_graph.specs.declared.node.Node.{Node}
-use Rattle.grind_linear_forms.specs.Marks.{reads_arguments}
+use Rattle.grind_reach.specs.Reached.{reads_arguments}
 use Rattle.grind_linear_forms.specs.Values.{OfOne, OfTwo, Computes, RespectsArithmetic}
-use Rattle.grind_linear_forms.proofs.ReadingLemmas.{get-before, get-at, length-push, contains-cases}
 use Rattle.grind_polynomials.specs.declared.poly.Term.{Term}
 use Rattle.grind_polynomials.specs.declared.poly.PolyRefusal.{PolyRefusal}
 use Rattle.grind_polynomials.specs.Polynomials.{degree, is_over}

@@ -1,20 +1,16 @@
--- Which nodes a reading needs.
-use Rattle.std.specs.Prelude.{◌≡◌, ℕ, suc, ◌≤◌, ◌<◌, List, length, None, slice_get, Bool}
+-- The readings of marked nodes.
+use Rattle.std.specs.Prelude.{◌≡◌, ℕ, suc, ◌<◌, List, length, None, slice_get, Bool}
 use Rattle.grind_term_graph.specs.declared.node.Node.{Node}
-use Rattle.grind_linear_forms.specs.Marks.{IsMarked, HasMarkedArguments}
+use Rattle.grind_reach.specs.Marks.{IsMarked, HasMarkedArguments}
 use Rattle.grind_polynomials.specs.declared.poly.Term.{Term}
 use Rattle.grind_polynomials.specs.Readings.{polynomial}
 
--- where the reading of n is not defined, neither is that of the root
-abbrev pub Spoils : List Node → ℕ → ℕ → Type 0
-Spoils nodes root n = polynomial nodes n ≡ None → polynomial nodes root ≡ None
-
--- the root and what it needs are marked, as far as marked nodes from number `from` on need them, and nothing else is
-pub record IsMarking (nodes : List Node) (root : ℕ) (marks : List Bool) (from : ℕ) : Type 0 where
+-- the root and what its reading needs are marked: where the reading of a marked node is not defined, neither is the root's
+pub record ServesReading (nodes : List Node) (root : ℕ) (marks : List Bool) : Type 0 where
   pub size : length marks ≡ suc root
   pub top : IsMarked marks root
-  pub needed : (n : ℕ) → IsMarked marks n → Spoils nodes root n
-  pub closed : (n : ℕ) → from ≤ n → HasMarkedArguments nodes marks n
+  pub needed : (n : ℕ) → IsMarked marks n → polynomial nodes n ≡ None → polynomial nodes root ≡ None
+  pub closed : (n : ℕ) → HasMarkedArguments nodes marks n
 
 -- of the first nodes, one for each of these polynomials, those that are marked have these as their readings
 abbrev pub AreRead : List Node → List Bool → List (List Term) → Type 0

@@ -7,7 +7,6 @@ mod content;
 pub mod factors;
 mod gathering;
 pub mod laws;
-mod marking;
 mod multiples;
 mod numbers;
 pub mod pairs;
@@ -29,3 +28,6 @@ pub use poly::{Poly, PolyRefusal, Term};
 pub use reading::poly_of;
 pub use reduction::{Reduced, normal};
 pub use sum::add_product;
+
+#[cfg(test)]
+mod tests;

@@ -1,14 +1,14 @@
 //! Terms read as polynomials.
 ghost use Rattle.std.specs.Prelude.{◌≡◌, ◌<◌, All, length, slice_get, Some, None, IfOk, IsErrOf};
 ghost use Rattle.grind_term_graph.specs.Terms.{int, sort_at};
-ghost use Rattle.grind_linear_forms.specs.Marks.{IsMarked, HasMarkedArguments};
-ghost use Rattle.grind_polynomials.specs.Marks.{AreRead};
+ghost use Rattle.grind_reach.specs.Marks.{IsMarked, HasMarkedArguments};
+ghost use Rattle.grind_polynomials.specs.Marks.{ServesReading, AreRead};
 ghost use Rattle.grind_polynomials.specs.Readings.{polynomial, of_one, of_two, sum_poly, negated_poly, product_poly, reading_of};
 
-use crate::marking::{is_marked, needed_nodes};
 use crate::poly::{Poly, PolyRefusal};
 use crate::sum::{add_product, negation, sum};
-use grind_outside::List;
+use grind_outside::{List, Memory};
+use grind_reach::{arguments_stand_before, is_marked, needed_nodes};
 use grind_term_graph::{Head, Node, NodeId, TermTable};
 use std::alloc::Global;
 
@@ -23,7 +23,7 @@ pub fn poly_of(alloc: Global, table: &TermTable, id: NodeId) -> Result<Poly, Pol
     ensures overflow { IsErrOf result PolyRefusal.Overflow → polynomial table.now.nodes id ≡ None }
     ensures degree { IsErrOf result PolyRefusal.Degree → ⊥ }
 {
-    let needed = needed_nodes(alloc, table, id)?;
+    let needed = marks_for(alloc, table, id)?;
     let mut polys = List::new(alloc);
     for number in 0..id.number() {
         let node = NodeId::new(number);
@@ -32,6 +32,16 @@ pub fn poly_of(alloc: Global, table: &TermTable, id: NodeId) -> Result<Poly, Pol
     }
     let poly = read_needed(alloc, table, needed.as_slice(), id, polys.as_slice())?;
     Ok(poly)
+}
+
+// Marks of the root and the nodes that its reading needs.
+fn marks_for(alloc: Global, table: &TermTable, root: NodeId) -> Result<List<bool>, Memory>
+    requires { root < length table.now.nodes }
+    ensures { IfOk result (λ marks. ServesReading table.now.nodes root marks) }
+{
+    arguments_stand_before(table);
+    let marks = needed_nodes(alloc, table, root)?;
+    Ok(marks)
 }
 
 // The reading of a node, where it is needed, from those of the nodes before it. A node that is not needed is not read.

@@ -1,7 +1,7 @@
 use Rattle.std.proofs.Common.{◌≡◌, IsErrOf, None, rules, ◌∙◌, subst}
 use Rattle.grind_linear_forms.specs.declared.form.FormRefusal.TheVariants.{Overflow}
 use Rattle.grind_linear_forms.specs.Readings.{linear}
-use Rattle.grind_linear_forms.specs.Marks.{IsMarked}
+use Rattle.grind_reach.specs.Marks.{IsMarked}
 use Rattle.grind_linear_forms.proofs.MarkLemmas.{read-needed}
 use Rattle.grind_linear_forms.proofs.reading.read_needed.Goals as goal
 

@@ -1,7 +1,7 @@
 use Rattle.std.proofs.Common.{◌≡◌, IsErrOf, None, rules, ◌∙◌, subst}
 use Rattle.grind_polynomials.specs.declared.poly.PolyRefusal.TheVariants.{Overflow}
 use Rattle.grind_polynomials.specs.Readings.{polynomial}
-use Rattle.grind_linear_forms.specs.Marks.{IsMarked}
+use Rattle.grind_reach.specs.Marks.{IsMarked}
 use Rattle.grind_polynomials.proofs.MarkLemmas.{read-needed}
 use Rattle.grind_polynomials.proofs.reading.read_needed.Goals as goal
 

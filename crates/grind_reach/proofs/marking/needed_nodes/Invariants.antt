@@ -1,6 +1,6 @@
 use Rattle.std.specs.Prelude.{suc, ◌≤◌}
-use Rattle.grind_polynomials.specs.Marks.{IsMarking}
-use Rattle.grind_polynomials.proofs.marking.needed_nodes.Given as goal
+use Rattle.grind_reach.proofs.MarkLemmas.{IsMarking}
+use Rattle.grind_reach.proofs.marking.needed_nodes.Given as goal
 
 abbrev pub invariant-loop-number : goal.invariant-loop-number
 invariant-loop-number l = record {

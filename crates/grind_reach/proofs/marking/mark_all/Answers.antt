@@ -1,7 +1,7 @@
 use Rattle.std.proofs.Common.{◌≡◌, ◌<◌, ℕ, true, length, slice_set, sym, ap, ◌∙◌, subst}
 use Rattle.std.proofs.Math.ListN.{length-set}
-use Rattle.grind_linear_forms.proofs.MarkLemmas.{so_far-within, so_far-goes_on}
-use Rattle.grind_polynomials.proofs.marking.mark_all.Goals as goal
+use Rattle.grind_reach.proofs.MarkLemmas.{so_far-within, so_far-goes_on}
+use Rattle.grind_reach.proofs.marking.mark_all.Goals as goal
 
 pub set-requires : goal.set-requires
 set-requires c =
