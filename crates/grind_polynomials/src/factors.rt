@@ -29,7 +29,8 @@ pub struct Factors {
 ///
 /// # Errors
 ///
-/// `Overflow` exactly where a coefficient on the way to the normal form or to a factor does not fit in 128 bits.
+/// `Overflow` exactly where a coefficient on the way to the normal form does not fit in 128 bits, which is judged first, or
+/// one on the way to a factor, or the divisor. `Degree` never comes, and `Memory` comes where there is none.
 pub fn factors_of(alloc: Global, p: &Poly, basis: &List<Poly>) -> Result<Factors, PolyRefusal>
     requires { All (λ b. b ≢ []) basis.now }
     ensures ok { IfOk result (λ factors. gathering.IsFactors basis.now p.now factors) }

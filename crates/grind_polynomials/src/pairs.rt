@@ -16,8 +16,8 @@ use std::alloc::Global;
 ///
 /// # Errors
 ///
-/// `Degree` exactly where that multiple has a degree over 16, and `Overflow` exactly where that is not so and a
-/// coefficient on the way does not fit in 128 bits.
+/// `Degree` exactly where that multiple has a degree over 16, which is judged first, and `Overflow` exactly where that is
+/// not so and a coefficient on the way does not fit in 128 bits. `Memory` comes where there is none.
 pub fn s_poly(alloc: Global, a: &Poly, b: &Poly) -> Result<Poly, PolyRefusal>
     requires first { a.now ≢ [] }
     requires second { b.now ≢ [] }

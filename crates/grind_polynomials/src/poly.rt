@@ -43,6 +43,10 @@ pub struct Term {
 
 impl Term {
     /// The same term once more.
+    ///
+    /// # Errors
+    ///
+    /// `Memory` where there is none.
     pub fn copy(&self, alloc: Global) -> Result<Term, Memory>
         ensures { IfOk result (λ term. term ≡ self.now) }
     {
@@ -129,6 +133,10 @@ impl Poly {
     }
 
     /// The number as a polynomial.
+    ///
+    /// # Errors
+    ///
+    /// `Memory` where there is none.
     pub fn number(alloc: Global, number: i128) -> Result<Poly, Memory>
         ensures { IfOk result (λ poly. poly ≡ number_poly number) }
     {
@@ -144,6 +152,10 @@ impl Poly {
     }
 
     /// The node as a polynomial.
+    ///
+    /// # Errors
+    ///
+    /// `Memory` where there is none.
     pub fn node(alloc: Global, node: NodeId) -> Result<Poly, Memory>
         ensures { IfOk result (λ poly. poly ≡ node_poly node) }
     {
@@ -158,6 +170,10 @@ impl Poly {
     }
 
     /// The same polynomial once more.
+    ///
+    /// # Errors
+    ///
+    /// `Memory` where there is none.
     pub fn copy(&self, alloc: Global) -> Result<Poly, Memory>
         ensures { IfOk result (λ poly. poly ≡ self.now) }
     {

@@ -16,7 +16,8 @@ use std::alloc::Global;
 ///
 /// # Errors
 ///
-/// `Overflow` exactly where a coefficient on the way does not fit in 128 bits.
+/// `Overflow` exactly where a coefficient on the way does not fit in 128 bits; a product whose degree would be over 16 is
+/// read as the node that it is, so that `Degree` never comes. `Memory` comes where there is none.
 pub fn poly_of(alloc: Global, table: &TermTable, id: NodeId) -> Result<Poly, PolyRefusal>
     requires { sort_at table.now.nodes id ≡ Some int }
     ensures ok { IfOk result (λ poly. polynomial table.now.nodes id ≡ Some poly) }

@@ -25,11 +25,13 @@ pub struct Reduced {
     pub rest: Poly,
 }
 
-/// The normal form of a polynomial by a basis.
+/// The normal form of a polynomial by a basis: the greatest monomial that some basis element reduces goes in each step,
+/// by the first such element, until there is none; then factor and rest are divided by their common divisor.
 ///
 /// # Errors
 ///
-/// `Overflow` exactly where a coefficient on the way does not fit in 128 bits.
+/// `Overflow` exactly where a coefficient on the way does not fit in 128 bits. `Degree` never comes, and `Memory` comes
+/// where there is none.
 pub fn normal(alloc: Global, p: &Poly, basis: &List<Poly>) -> Result<Reduced, PolyRefusal>
     requires { All (λ b. b ≢ []) basis.now }
     ensures ok { IfOk result (λ normal. reduction.IsNormal basis.now p.now normal) }

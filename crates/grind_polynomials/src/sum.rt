@@ -10,12 +10,13 @@ use grind_outside::List;
 use grind_term_graph::NodeId;
 use std::alloc::Global;
 
-/// The polynomial `a` and the product of `q` and `b`, added.
+/// The polynomial `a` and the product of `q` and `b`, added: each term of `q` in turn times each term of `b` in turn.
 ///
 /// # Errors
 ///
-/// `Degree` exactly where the first refusal on the way is that a product has a degree over 16, and `Overflow` exactly
-/// where it is that a product or a sum does not fit in 128 bits.
+/// The first refusal on the way decides. Of each product of two terms the degree is judged first (`Degree`, where it is
+/// over 16), then the product of the coefficients and then the sum with the coefficient that stands there (`Overflow`,
+/// where one does not fit in 128 bits). `Memory` comes where there is none.
 pub fn add_product(alloc: Global, a: &Poly, q: &Poly, b: &Poly) -> Result<Poly, PolyRefusal>
     ensures ok { IfOk result (λ sum. sum_product a.now q.now b.now ≡ Ok sum) }
     ensures overflow { IsErrOf result PolyRefusal.Overflow → sum_product a.now q.now b.now ≡ Err Overflow }

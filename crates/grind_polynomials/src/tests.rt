@@ -52,30 +52,51 @@ fn read(alloc: Global, table: &TermTable, id: NodeId) -> Option<Result<Poly, Pol
     Some(poly_of(alloc, table, id))
 }
 
-// A number times a product of nodes.
-fn product_of(alloc: Global, number: i128, nodes: &[u32]) -> Result<Poly, PolyRefusal> {
+// A number times a power of a node.
+fn power_of(alloc: Global, number: i128, node: u32, power: u32) -> Result<Poly, PolyRefusal> {
     let zero = Poly::zero(alloc);
+    let factor = Poly::node(alloc, NodeId::new(node))?;
     let mut product = Poly::number(alloc, number)?;
-    let mut rest = nodes;
-    while let Some((node, tail)) = rest.split_first() {
-        let factor = Poly::node(alloc, NodeId::new(*node))?;
+    for _count in 0..power {
         product = add_product(alloc, &zero, &product, &factor)?;
-        rest = tail;
     }
     Ok(product)
 }
 
-// The sum of numbers times products of nodes.
-fn poly_from(alloc: Global, terms: &[(i128, &[u32])]) -> Result<Poly, PolyRefusal> {
+// The sum of a polynomial and a number times a power of a node.
+fn with_power(
+    alloc: Global,
+    sum: &Poly,
+    number: i128,
+    node: u32,
+    power: u32,
+) -> Result<Poly, PolyRefusal> {
     let one = Poly::number(alloc, 1)?;
-    let mut sum = Poly::zero(alloc);
-    let mut rest = terms;
-    while let Some((term, tail)) = rest.split_first() {
-        let product = product_of(alloc, term.0, term.1)?;
-        sum = add_product(alloc, &sum, &one, &product)?;
-        rest = tail;
-    }
-    Ok(sum)
+    let product = power_of(alloc, number, node, power)?;
+    add_product(alloc, sum, &one, &product)
+}
+
+// The square of node 2, twice node 2, less node 3, and 1.
+fn element(alloc: Global) -> Result<Poly, PolyRefusal> {
+    let square = power_of(alloc, 1, 2, 2)?;
+    let linear = with_power(alloc, &square, 2, 2, 1)?;
+    let difference = with_power(alloc, &linear, -1, 3, 1)?;
+    with_power(alloc, &difference, 1, 2, 0)
+}
+
+// Twice node 2 taken off node 3, less 1.
+fn remainder(alloc: Global) -> Result<Poly, PolyRefusal> {
+    let linear = power_of(alloc, -2, 2, 1)?;
+    let difference = with_power(alloc, &linear, 1, 3, 1)?;
+    with_power(alloc, &difference, -1, 2, 0)
+}
+
+// The product of nodes 2 and 3, less 1.
+fn product_less_one(alloc: Global) -> Result<Poly, PolyRefusal> {
+    let left = power_of(alloc, 1, 2, 1)?;
+    let right = power_of(alloc, 1, 3, 1)?;
+    let minus_one = Poly::number(alloc, -1)?;
+    add_product(alloc, &minus_one, &left, &right)
 }
 
 // What the S-polynomial of two polynomials answers, where neither is zero.
@@ -113,46 +134,53 @@ fn factored(alloc: Global, p: &Poly, b: Poly) -> Option<Result<Factors, PolyRefu
 #[test]
 fn pairs_a_product_with_its_factor(rt: HostRuntime) -> Result<(), Fail> {
     let alloc = rt.alloc();
-    let a = poly_from(alloc, &[(1, &[2, 3]), (-1, &[])])?;
-    let b = poly_from(alloc, &[(1, &[2])])?;
-    assert_eq!(rt; paired(alloc, &a, &b), Some(poly_from(alloc, &[(-1, &[])])));
+    let a = product_less_one(alloc)?;
+    let b = power_of(alloc, 1, 2, 1)?;
+    let answer = paired(alloc, &a, &b);
+    assert_eq!(rt; answer, Some(power_of(alloc, -1, 2, 0)));
     Ok(())
 }
 
 #[test]
 fn reduces_a_square(rt: HostRuntime) -> Result<(), Fail> {
     let alloc = rt.alloc();
-    let square = poly_from(alloc, &[(1, &[2, 2])])?;
-    let element = poly_from(alloc, &[(1, &[2, 2]), (2, &[2]), (-1, &[3]), (1, &[])])?;
-    let rest = poly_from(alloc, &[(-2, &[2]), (1, &[3]), (-1, &[])])?;
-    assert_eq!(rt; reduced(alloc, &square, element), Some(Ok(Reduced { factor: 1, rest })));
+    let square = power_of(alloc, 1, 2, 2)?;
+    let rest = remainder(alloc)?;
+    let answer = reduced(alloc, &square, element(alloc)?);
+    assert_eq!(rt; answer, Some(Ok(Reduced { factor: 1, rest })));
     Ok(())
 }
 
 #[test]
 fn names_the_factors_of_a_square(rt: HostRuntime) -> Result<(), Fail> {
     let alloc = rt.alloc();
-    let square = poly_from(alloc, &[(1, &[2, 2])])?;
-    let element = poly_from(alloc, &[(1, &[2, 2]), (2, &[2]), (-1, &[3]), (1, &[])])?;
+    let square = power_of(alloc, 1, 2, 2)?;
     let mut list = List::new(alloc);
-    list.push(poly_from(alloc, &[(-1, &[])])?)?;
+    list.push(power_of(alloc, -1, 2, 0)?)?;
     let factors = Factors {
         divisor: 1,
         own: 1,
         list,
     };
-    assert_eq!(rt; factored(alloc, &square, element), Some(Ok(factors)));
+    let answer = factored(alloc, &square, element(alloc)?);
+    assert_eq!(rt; answer, Some(Ok(factors)));
     Ok(())
 }
 
 #[test]
 fn refuses_a_product_of_degree_17(rt: HostRuntime) -> Result<(), Fail> {
     let alloc = rt.alloc();
-    let nine = product_of(alloc, 1, &[2; 9])?;
-    let eight = product_of(alloc, 1, &[2; 8])?;
     let zero = Poly::zero(alloc);
-    assert_eq!(rt; add_product(alloc, &zero, &nine, &eight), Err(PolyRefusal::Degree));
-    assert_eq!(rt; add_product(alloc, &zero, &eight, &eight), product_of(alloc, 1, &[2; 16]));
+    let nine = power_of(alloc, 1, 2, 9)?;
+    let eight = power_of(alloc, 1, 2, 8)?;
+    assert_eq!(rt;
+        add_product(alloc, &zero, &nine, &eight),
+        Err(PolyRefusal::Degree)
+    );
+    assert_eq!(rt;
+        add_product(alloc, &zero, &eight, &eight),
+        power_of(alloc, 1, 2, 16)
+    );
     Ok(())
 }
 
@@ -160,13 +188,15 @@ fn refuses_a_product_of_degree_17(rt: HostRuntime) -> Result<(), Fail> {
 fn reads_a_long_product_as_an_atom(rt: HostRuntime) -> Result<(), Fail> {
     let alloc = rt.alloc();
     let mut table = TermTable::new(alloc, 30)?;
+    let leaf = NodeId::new(2);
     let _leaf = put_leaf(alloc, &mut table);
     for number in 2..18 {
-        let _product = put_product(alloc, &mut table, NodeId::new(number), NodeId::new(2));
+        let node = NodeId::new(number);
+        let _product = put_product(alloc, &mut table, node, leaf);
     }
     let sixteen = read(alloc, &table, NodeId::new(17));
-    assert_eq!(rt; sixteen, Some(product_of(alloc, 1, &[2; 16])));
+    assert_eq!(rt; sixteen, Some(power_of(alloc, 1, 2, 16)));
     let seventeen = read(alloc, &table, NodeId::new(18));
-    assert_eq!(rt; seventeen, Some(product_of(alloc, 1, &[18])));
+    assert_eq!(rt; seventeen, Some(power_of(alloc, 1, 18, 1)));
     Ok(())
 }

@@ -13,11 +13,7 @@ use std::alloc::Global;
 /// # Errors
 ///
 /// `Memory` where there is none for the marks.
-pub fn needed_nodes(
-    alloc: Global,
-    table: &TermTable,
-    root: NodeId,
-) -> Result<List<bool>, Memory>
+pub fn needed_nodes(alloc: Global, table: &TermTable, root: NodeId) -> Result<List<bool>, Memory>
     requires { root < length table.now.nodes }
     ensures size { IfOk result (λ marks. length marks ≡ suc root) }
     ensures exact { IfOk result (λ marks. (n : ℕ) → IsMarked marks n ↔ Reaches table.now.nodes root n) }
