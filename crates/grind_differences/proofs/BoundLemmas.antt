@@ -1,19 +1,17 @@
 -- Readings of whole numbers, and their differences.
-use Rattle.std.proofs.Common.{◌≡◌, ◌↔◌, ℕ, ◌<◌, List, [], ◌∷◌, ◌++◌, length, map, Option, Some, None, Bool, true, false, true≢false, cond, refl, sym, ap, ◌∙◌, subst, arith, inl, inr, ℤ, pos, negsuc, neg_ℤ, ◌+ℤ◌}
+use Rattle.std.proofs.Common.{◌≡◌, ◌↔◌, ℕ, zero, suc, ◌<◌, List, [], ◌∷◌, ◌++◌, length, Option, Some, None, Bool, true, false, true≢false, cond, refl, sym, ap, ◌∙◌, subst, ℤ, pos, negsuc}
 use Rattle.std.specs.Prelude.{IsTrue, nat_eq, slice_get}
-use Rattle.std.specs.Option.{IsSomeAnd, option_and_then, option_map}
+use Rattle.std.specs.Option.{option_and_then, option_map}
 use Rattle.std.proofs.lemmas.Bool.{ne_eqb}
 use Rattle.std.proofs.lemmas.Bool.Decides.{Decides-eqb}
 use Rattle.std.proofs.lemmas.Option.{same_Some, none-some, slice_get_within}
-use Rattle.grind_term_graph.specs.declared.head.Head.TheVariants as head
 use Rattle.grind_term_graph.specs.declared.node.Node.{Node}
 use Rattle.grind_term_graph.specs.Terms.{int, sort_at}
 use Rattle.grind_linear_forms.specs.declared.form.Part.{Part}
-use Rattle.grind_linear_forms.specs.Forms.{FormData, form_data, part_of}
+use Rattle.grind_linear_forms.specs.Forms.{FormData, form_data}
 use Rattle.grind_linear_forms.specs.Sums.{scaled_sum}
 use Rattle.grind_linear_forms.specs.Readings.{linear}
-use Rattle.grind_linear_forms.proofs.ReadingLemmas.{linear-stays}
-use Rattle.grind_differences.specs.Bounds.{negated_part, opposite_form, plus}
+use Rattle.grind_linear_forms.specs.Laws.{ReadingsStay}
 use Rattle.grind_differences.specs.Differences.{is_number_sort, reading, difference}
 
 -- what a step behind an option gives, its value gave
@@ -22,13 +20,20 @@ pub and_then_some : {A B : Type 0} (f : A → Option B) (o : Option A) (b : B) �
 and_then_some f None b e = absurd (none-some b e)
 and_then_some f (Some a) b e = (a, refl, e)
 
+-- a field of an item that stands there stays what it is
+pub field_is_still : {X Y : Type 0} (f : X → Y) (xs ys : List X) (i : ℕ) (y : Y)
+    → option_map f (slice_get xs i) ≡ Some y → option_map f (slice_get (xs ++ ys) i) ≡ Some y
+field_is_still f [] ys i y h = absurd (none-some y h)
+field_is_still f (x ∷ xs) ys zero y h = h
+field_is_still f (x ∷ xs) ys (suc i) y h = field_is_still f xs ys i y h
+
 -- ---- readings
 
 pub reading-number : (nodes : List Node) (n : ℕ) → sort_at nodes n ≡ Some int → reading nodes n ≡ linear nodes n
 unfolding reading
 reading-number nodes n e = ap (λ (sort : Option ℕ). cond (is_number_sort sort) (linear nodes n) None) e
 
-no_number_sort : (sort : Option ℕ) → ¬ (sort ≡ Some int) → is_number_sort sort ≡ false
+pub no_number_sort : (sort : Option ℕ) → ¬ (sort ≡ Some int) → is_number_sort sort ≡ false
 no_number_sort None h = refl
 no_number_sort (Some sort) h = ne_eqb sort int (λ (e : sort ≡ int). h (ap Some e))
 
@@ -52,17 +57,17 @@ pub reading-sort : (nodes : List Node) (n : ℕ) (form : FormData) → reading n
 unfolding reading
 reading-sort nodes n form e = from_sort (sort_at nodes n) (linear nodes n) form e
 
-within_of_sort : (nodes : List Node) (o : Option Node) (n : ℕ) → slice_get nodes n ≡ o
+pub within_of_sort : (nodes : List Node) (o : Option Node) (n : ℕ) → slice_get nodes n ≡ o
     → option_map (λ (node : Node). node.sort) o ≡ Some int → n < length nodes
 within_of_sort nodes None n e h = absurd (none-some int h)
 within_of_sort nodes (Some node) n e h = slice_get_within nodes n node e
 
-pub reading-stays : (nodes more : List Node) (n : ℕ) (form : FormData) → reading nodes n ≡ Some form
+pub reading-stays : ReadingsStay → (nodes more : List Node) (n : ℕ) (form : FormData) → reading nodes n ≡ Some form
     → reading (nodes ++ more) n ≡ Some form
-reading-stays nodes more n form e =
+reading-stays law nodes more n form e =
     let is = reading-sort nodes n form e in
     let still : sort_at (nodes ++ more) n ≡ Some int = field_is_still (λ (node : Node). node.sort) nodes more n int is.0 in
-    reading-number (nodes ++ more) n still ∙ linear-stays nodes more n (within_of_sort nodes (slice_get nodes n) n refl is.0) ∙ is.1
+    reading-number (nodes ++ more) n still ∙ law nodes more n (within_of_sort nodes (slice_get nodes n) n refl is.0) ∙ is.1
 
 -- ---- differences
 
@@ -83,11 +88,11 @@ difference-parts nodes a b form e =
     let two = and_then_some (λ (r : FormData). scaled_sum one.0 (pos 1) r (negsuc 0)) (reading nodes b) form one.2 in
     (one.0, two.0, one.1, two.1, two.2)
 
-pub difference-stays : (nodes more : List Node) (a b : ℕ) (form : FormData) → difference nodes a b ≡ Some form
+pub difference-stays : ReadingsStay → (nodes more : List Node) (a b : ℕ) (form : FormData) → difference nodes a b ≡ Some form
     → difference (nodes ++ more) a b ≡ Some form
-difference-stays nodes more a b form e =
+difference-stays law nodes more a b form e =
     let is = difference-parts nodes a b form e in
-    difference-from (nodes ++ more) a b is.0 is.1 (reading-stays nodes more a is.0 is.2) (reading-stays nodes more b is.1 is.3) ∙ is.4
+    difference-from (nodes ++ more) a b is.0 is.1 (reading-stays law nodes more a is.0 is.2) (reading-stays law nodes more b is.1 is.3) ∙ is.4
 
 -- the first term has no reading, or the second
 pub difference-left : (nodes : List Node) (a b : ℕ) → reading nodes a ≡ None → difference nodes a b ≡ None

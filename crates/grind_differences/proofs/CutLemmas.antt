@@ -1,16 +1,13 @@
 -- Cuts of sums.
-use Rattle.std.proofs.Common.{◌≡◌, List, [], ◌∷◌, Option, Some, None, ℕ, ℤ, pos, ap, sym, ◌∙◌, refl, subst, Bool, true, false, true≢false, All, ◌↔◌, ◌≤ℤ◌, ◌<ℤ◌, ◌*ℤ◌, ◌⊎◌, inl, inr}
+use Rattle.std.proofs.Common.{◌≡◌, List, [], ◌∷◌, ℤ, pos, sym, refl, subst, Bool, false, true≢false, All, ◌↔◌, ◌≤ℤ◌, ◌<ℤ◌, ◌*ℤ◌}
 use Rattle.std.specs.Prelude.{IsTrue}
 use Rattle.std.proofs.lemmas.List.Elements.{All-nil, All-cons}
-use Rattle.grind_term_graph.specs.declared.node.Node.{Node}
 use Rattle.grind_linear_forms.specs.declared.form.Part.{Part}
 use Rattle.grind_linear_forms.specs.Forms.{part_of}
 use Rattle.grind_linear_forms.specs.Cuts.{Divides, DividesAll, IsCut, times}
 use Rattle.grind_linear_forms.specs.Laws.{OneCut}
 use Rattle.grind_differences.specs.Bounds.{IsWithinCut}
-use Rattle.std.specs.Option.{option_and_then}
 use Rattle.grind_linear_forms.specs.Forms.{FormData}
-use Rattle.grind_linear_forms.specs.Sums.{scaled_sum}
 
 -- ---- cuts
 

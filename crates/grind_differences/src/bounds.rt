@@ -1,5 +1,5 @@
 //! Linear forms as bounds: their opposites, what is over them, and their cuts.
-ghost use Rattle.std.specs.Prelude.{IsTrue, ◌↔◌, ◌≡◌, All, map, IfOk, pos, ◌+ℤ◌, neg_ℤ, ◌≤ℤ◌, FitsSigned};
+ghost use Rattle.std.specs.Prelude.{IsTrue, ◌↔◌, ◌≡◌, All, map, IfOk, pos, ◌+ℤ◌, neg_ℤ, ◌≤ℤ◌, ◌<ℤ◌, FitsSigned};
 ghost use Rattle.std.specs.Int.{w128};
 ghost use Rattle.grind_linear_forms.specs.declared.form.Part.{Part as PartData};
 ghost use Rattle.grind_differences.specs.Bounds.{negated_part, opposite_form, HasOpposite, plus, IsOver, IsWithinCut};
@@ -158,25 +158,27 @@ fn is_same_part(part: Part, other: Part) -> bool
 ///
 /// # Errors
 /// `Memory` where memory was wanted and there was none.
-pub fn is_within_cut(
-    alloc: Global,
-    sum: &Form,
-    divisor: i128,
-    form: &Form,
-) -> Result<bool, Memory>
+pub fn is_within_cut(alloc: Global, sum: &Form, divisor: i128, form: &Form) -> Result<bool, Memory>
     ensures { IfOk result (λ yes. IsTrue yes ↔ IsWithinCut sum.now divisor form.now) }
 {
-    one_cut();
-    if divisor < 1 {
+    if !is_positive(divisor) {
         return Ok(false);
     }
     if !divides(divisor, sum) {
         return Ok(false);
     }
+    one_cut();
     match cut(alloc, sum, divisor) {
         Ok(whole) => Ok(is_at_most(form, &whole)),
         Err(_) => Err(Memory),
     }
+}
+
+/// Whether the number is greater than 0.
+fn is_positive(number: i128) -> bool
+    ensures { IsTrue result ↔ (pos 0 <ℤ number) }
+{
+    0 < number
 }
 
 /// Whether the first form has the parts of the second, and at most its constant.

@@ -7,7 +7,9 @@ pub mod differences;
 pub mod equations;
 pub mod laws;
 
-pub use bounds::{has_opposite, have_same_parts, is_opposite_form, is_plus_one, is_same_form, is_within_cut};
+pub use bounds::{
+    has_opposite, have_same_parts, is_opposite_form, is_plus_one, is_same_form, is_within_cut,
+};
 pub use differences::{
     are_apart_by_reading, is_difference, is_difference_or_more, is_difference_plus_one,
     is_more_than_difference, is_number, is_poly_difference,

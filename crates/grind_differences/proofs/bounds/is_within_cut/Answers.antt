@@ -1,13 +1,15 @@
-use Rattle.std.proofs.Common.{rules, arith, ◌<ℤ◌, pos, true≢false, sym, ◌∙◌}
+use Rattle.std.proofs.Common.{rules, ◌<ℤ◌, pos, true≢false, sym, ◌∙◌}
 use Rattle.std.specs.Int.{w128}
 use Rattle.std.proofs.lemmas.Int.{to_z-of_z}
-use Rattle.grind_linear_forms.specs.Cuts.{DividesAll, IsCut}
+use Rattle.grind_linear_forms.specs.Cuts.{IsCut}
 use Rattle.grind_differences.proofs.CutLemmas.{no_divisor, no_cut, by_cut}
 use Rattle.grind_differences.proofs.bounds.is_within_cut.Goals as goal
 
-pub returns-then-divisor-lt1 : goal.returns-then-divisor-lt1
-returns-then-divisor-lt1 c =
-    no_divisor c.args.sum.now c.args.form.now c.args.divisor (λ positive. let low = c.if-divisor-lt1.true in omega (arith, low, positive))
+pub returns-then-not-is_positive : goal.returns-then-not-is_positive
+returns-then-not-is_positive c =
+    let back = to_z-of_z w128 c.args.divisor c.ranges.divisor in
+    let decides = simp back at c.is_positive.ensures in
+    no_divisor c.args.sum.now c.args.form.now c.args.divisor (λ positive. true≢false (sym (decides.1 positive) ∙ c.if-not-is_positive.true))
 
 pub returns-then-not-divides : goal.returns-then-not-divides
 returns-then-not-divides c =

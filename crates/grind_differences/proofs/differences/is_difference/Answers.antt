@@ -1,5 +1,4 @@
-use Rattle.std.proofs.Common.{◌≡◌, sym, ◌∙◌, pos}
-use Rattle.grind_linear_forms.specs.Forms.{FormData}
+use Rattle.std.proofs.Common.{sym, ◌∙◌}
 use Rattle.grind_differences.proofs.BoundLemmas.{is_no_base, is_base}
 use Rattle.grind_differences.proofs.differences.is_difference.Goals as goal
 

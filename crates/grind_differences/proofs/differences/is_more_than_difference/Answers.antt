@@ -1,4 +1,4 @@
-use Rattle.std.proofs.Common.{◌≡◌, sym, ◌∙◌, pos}
+use Rattle.std.proofs.Common.{sym, ◌∙◌, pos}
 use Rattle.grind_linear_forms.specs.Forms.{FormData}
 use Rattle.grind_differences.specs.Bounds.{IsOver}
 use Rattle.grind_differences.proofs.BoundLemmas.{no_difference, by_difference}

@@ -1,8 +1,6 @@
-use Rattle.std.proofs.Common.{rules, ◌≡◌, Some, None, IsErrOf, true≢false, sym, ◌∙◌}
-use Rattle.grind_term_graph.specs.Terms.{int, sort_at}
-use Rattle.grind_linear_forms.specs.declared.form.FormRefusal.{FormRefusal}
+use Rattle.std.proofs.Common.{rules, ◌≡◌, None, IsErrOf, true≢false, sym, ◌∙◌}
 use Rattle.grind_linear_forms.specs.declared.form.FormRefusal.TheVariants as refusal
-use Rattle.grind_differences.specs.Bounds.{reading}
+use Rattle.grind_differences.specs.Differences.{reading}
 use Rattle.grind_differences.proofs.BoundLemmas.{reading-number, reading-other}
 use Rattle.grind_differences.proofs.differences.reading.Goals as goal
 
