@@ -1,5 +1,5 @@
 -- Sums of premises, one premise after the other.
-use Rattle.std.proofs.Common.{◌≡◌, ◌≢◌, length, arith, List, [], ◌∷◌, Option, Some, None, ℕ, ℤ, pos, ap, sym, ◌∙◌, refl, subst, Bool, true, false, true≢false, All, ◌↔◌, ◌≤ℤ◌, ◌<ℤ◌, ◌*ℤ◌, ◌⊎◌, inl, inr}
+use Rattle.std.proofs.Common.{◌≡◌, List, [], ◌∷◌, Option, Some, None, ℕ, ℤ, pos, ap, sym, ◌∙◌, refl, subst, Bool, true, false, true≢false, All, ◌↔◌, ◌≤ℤ◌, ◌<ℤ◌, ◌*ℤ◌, ◌⊎◌, inl, inr}
 use Rattle.std.specs.Prelude.{IsTrue}
 use Rattle.std.proofs.lemmas.List.Elements.{All-nil, All-cons}
 use Rattle.grind_term_graph.specs.declared.node.Node.{Node}
@@ -16,8 +16,7 @@ use Rattle.grind_polynomials.specs.Readings.{answered}
 use Rattle.grind_proof_kernel.specs.PolyRules.{zero_of, gathered}
 use Rattle.grind_proof_kernel.specs.declared.proof.Line.{Line}
 use Rattle.grind_proof_kernel.specs.Claims.{claim_at, claims_at}
-use Rattle.grind_proof_kernel.specs.LinearRules.{taken, combined, IsBoundOver, AreApartAlong, KeepApart, IsApart}
-use Rattle.grind_differences.specs.Differences.{AreApartByReading}
+use Rattle.grind_proof_kernel.specs.LinearRules.{taken, combined, KeepApart, IsApart}
 
 -- the first premise is added, and the others are left
 pub combined_goes_on : (lines : List Line) (whole : Option FormData) (sum next : FormData) (factors factors_tail : List ℤ) (factor : ℤ)
@@ -70,45 +69,4 @@ module _ (nodes : List Node) (premises : List (Option Claim)) (claim : Claim) (a
         let K : ℕ → ℕ → Type 0 = λ x y. KeepApart nodes premises x y ⊎ KeepApart nodes premises y x in
         let kept : K a b = subst (λ (x : ℕ). K x b) (left h.0 h.1 a b (sym h.2 ∙ is)) (subst (λ (y : ℕ). K h.0 y) (right h.0 h.1 a b (sym h.2 ∙ is)) h.3) in
         elim kept [ inl k ↦ absurd (true≢false (sym (decides.1 k) ∙ no_first)) | inr k ↦ also.1 k ],
-  )
-
--- the three ways of keeping apart, each read from a test of it
-module _ (nodes : List Node) (lines : List Line) (a b : ℕ) (is : Bool) where
-  pub kept_by_reading : (ps : List ℕ) → length ps ≡ 0 → (IsTrue is ↔ AreApartByReading nodes a b)
-      → IsTrue is ↔ KeepApart nodes (claims_at lines ps) a b
-  kept_by_reading (p ∷ ps) none decides = absurd (omega arith)
-  kept_by_reading [] none decides = (
-    λ h. inl (refl, decides.0 h),
-    λ h. elim h [
-      | inl k ↦ decides.1 k.1
-      | inr o ↦ elim o [ inl k ↦ let e = k.1 in absurd cc | inr k ↦ let e = k.2 in absurd cc ]
-    ],
-  )
-
-  pub kept_by_bound : (claims : List (Option Claim)) (one : Claim) → claims ≡ Some one ∷ []
-      → (IsTrue is ↔ IsBoundOver nodes (Some one) a b) → IsTrue is ↔ KeepApart nodes claims a b
-  kept_by_bound claims one e decides = (
-    λ h. inr (inl (Some one, e, decides.0 h)),
-    λ h. elim h [
-      | inl k ↦ let f = k.0 in absurd cc
-      | inr o ↦ elim o [
-        | inl k ↦
-            let f = sym k.1 ∙ e in
-            let same : k.0 ≡ Some one = cc in
-            decides.1 (subst (λ (it : Option Claim). IsBoundOver nodes it a b) same k.2)
-        | inr k ↦ let f = sym e ∙ k.2 in absurd cc
-      ]
-    ],
-  )
-
-  pub kept_along : (ps : List ℕ) → length ps ≢ 0 → length ps ≢ 1 → (IsTrue is ↔ AreApartAlong (claims_at lines ps) a b)
-      → IsTrue is ↔ KeepApart nodes (claims_at lines ps) a b
-  kept_along [] some more decides = absurd (some refl)
-  kept_along (p ∷ []) some more decides = absurd (more refl)
-  kept_along (p ∷ q ∷ rest) some more decides = (
-    λ h. inr (inr (decides.0 h)),
-    λ h. elim h [
-      | inl k ↦ let e = k.0 in absurd cc
-      | inr o ↦ elim o [ inl k ↦ let e = k.1 in absurd cc | inr k ↦ decides.1 k ]
-    ],
   )
