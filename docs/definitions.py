@@ -17,6 +17,7 @@ FILES = {
     "grind_linear_forms": None,
     "grind_monomials": None,
     "grind_polynomials": None,
+    "grind_differences": ["Bounds", "Differences", "Equations", "Laws"],
     "grind_classes": ["Classes"],
     "grind_congruence": ["Derivable", "Congruence", "Edges", "Exact", "Asserted"],
     "grind_schemes": ["Labels", "Goals", "Limits", "Schemes", "Theorems", "Instances", "Laws"],

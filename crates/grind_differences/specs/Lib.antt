@@ -2,3 +2,4 @@ pub mod Bounds
 pub mod Differences
 pub mod Equations
 pub mod Laws
+pub mod DifferenceCases
