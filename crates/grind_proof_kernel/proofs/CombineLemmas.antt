@@ -10,6 +10,10 @@ use Rattle.grind_proof_kernel.specs.declared.claim.Claim.TheVariants.{Differ}
 use Rattle.std.specs.Option.{option_and_then}
 use Rattle.grind_linear_forms.specs.Forms.{FormData}
 use Rattle.grind_linear_forms.specs.Sums.{scaled_sum}
+use Rattle.grind_polynomials.specs.declared.poly.Term.{Term}
+use Rattle.grind_polynomials.specs.Sums.{sum_product}
+use Rattle.grind_polynomials.specs.Readings.{answered}
+use Rattle.grind_proof_kernel.specs.PolyRules.{zero_of, gathered}
 use Rattle.grind_proof_kernel.specs.declared.proof.Line.{Line}
 use Rattle.grind_proof_kernel.specs.Claims.{claim_at, claims_at}
 use Rattle.grind_proof_kernel.specs.LinearRules.{taken, combined, KeepApart, IsApart}
@@ -23,6 +27,16 @@ combined_goes_on lines whole sum next factors factors_tail factor ps ps_tail p e
     let K = λ (o : Option FormData). option_and_then (λ (n : FormData). combined n factors_tail (claims_at lines ps_tail)) o in
     so_far ∙ ap (λ (xs : List ℤ). combined sum xs (claims_at lines ps)) f
     ∙ ap (λ (qs : List ℕ). combined sum (factor ∷ factors_tail) (claims_at lines qs)) e ∙ ap K (sym given)
+
+-- the same of products
+pub gathered_goes_on : (lines : List Line) (whole : Option (List Term)) (sum next : List Term) (factors factors_tail : List (List Term))
+    (factor : List Term) (ps ps_tail : List ℕ) (p : ℕ) → ps ≡ p ∷ ps_tail → factors ≡ factor ∷ factors_tail →
+    Some next ≡ option_and_then (λ (poly : List Term). answered (sum_product sum factor poly)) (zero_of (claim_at lines p)) →
+    whole ≡ gathered sum factors (claims_at lines ps) → whole ≡ gathered next factors_tail (claims_at lines ps_tail)
+gathered_goes_on lines whole sum next factors factors_tail factor ps ps_tail p e f given so_far =
+    let K = λ (o : Option (List Term)). option_and_then (λ (n : List Term). gathered n factors_tail (claims_at lines ps_tail)) o in
+    so_far ∙ ap (λ (xs : List (List Term)). gathered sum xs (claims_at lines ps)) f
+    ∙ ap (λ (qs : List ℕ). gathered sum (factor ∷ factors_tail) (claims_at lines qs)) e ∙ ap K (sym given)
 
 -- ---- terms that are kept apart, in either order
 

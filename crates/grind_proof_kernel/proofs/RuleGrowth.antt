@@ -83,16 +83,26 @@ module _ (differences : DifferencesStay) (polys : PolyDifferencesStay) (nodes mo
   over_stays a b least form h = (h.0, differences nodes more a b h.0 h.1, h.2)
 
   read_stays : (premises : List (Option Claim)) (claim : Claim) → IsRead nodes premises claim → IsRead (nodes ++ more) premises claim
-  read_stays premises claim h = (h.0, h.1, h.2, elim h.3 [
-    | inl e ↦ inl (e.0, compares_stay h.0 _ _ (λ a b. differences nodes more a b h.1) e.1)
-    | inr e ↦ inr (e.0, compares_stay h.0 _ _ (λ a b. plus_stays b a (pos 1) h.1) e.1)
-  ])
+  read_stays premises claim h = (
+    h.0,
+    h.1,
+    h.2,
+    elim h.3 [
+      | inl e ↦ inl (e.0, compares_stay h.0 _ _ (λ a b. differences nodes more a b h.1) e.1)
+      | inr e ↦ inr (e.0, compares_stay h.0 _ _ (λ a b. plus_stays b a (pos 1) h.1) e.1)
+    ],
+  )
 
   write_stays : (premises : List (Option Claim)) (claim : Claim) → IsWrite nodes premises claim → IsWrite (nodes ++ more) premises claim
-  write_stays premises claim h = (h.0, h.1, h.2, elim h.3 [
-    | inl e ↦ inl (e.0, compares_stay h.0 _ _ (λ a b. over_stays a b (pos 0) h.1) e.1)
-    | inr e ↦ inr (e.0, compares_stay h.0 _ _ (λ a b. over_stays b a (pos 1) h.1) e.1)
-  ])
+  write_stays premises claim h = (
+    h.0,
+    h.1,
+    h.2,
+    elim h.3 [
+      | inl e ↦ inl (e.0, compares_stay h.0 _ _ (λ a b. over_stays a b (pos 0) h.1) e.1)
+      | inr e ↦ inr (e.0, compares_stay h.0 _ _ (λ a b. over_stays b a (pos 1) h.1) e.1)
+    ],
+  )
 
   line_stays : (premises : List (Option Claim)) (claim : Claim) → IsLine nodes premises claim → IsLine (nodes ++ more) premises claim
   line_stays premises claim h = (h.0, h.1, h.2, h.3, h.4, differences nodes more h.0 h.1 h.2 h.5)
@@ -110,10 +120,17 @@ module _ (differences : DifferencesStay) (polys : PolyDifferencesStay) (nodes mo
   )
 
   strict_stays : (premises : List (Option Claim)) (claim : Claim) → IsStrict nodes premises claim → IsStrict (nodes ++ more) premises claim
-  strict_stays premises claim h = (h.0, h.1, h.2, h.3, h.4, elim h.5 [
-    | inl e ↦ inl (differences nodes more h.0 h.1 h.2 e)
-    | inr e ↦ inr (differences nodes more h.1 h.0 h.2 e)
-  ])
+  strict_stays premises claim h = (
+    h.0,
+    h.1,
+    h.2,
+    h.3,
+    h.4,
+    elim h.5 [
+      | inl e ↦ inl (differences nodes more h.0 h.1 h.2 e)
+      | inr e ↦ inr (differences nodes more h.1 h.0 h.2 e)
+    ],
+  )
 
   keep_apart_stays : (premises : List (Option Claim)) (a b : ℕ) → KeepApart nodes premises a b → KeepApart (nodes ++ more) premises a b
   keep_apart_stays premises a b (inl h) = inl (h.0, (h.1.0, differences nodes more a b h.1.0 h.1.1, h.1.2, h.1.3))
@@ -122,10 +139,15 @@ module _ (differences : DifferencesStay) (polys : PolyDifferencesStay) (nodes mo
   keep_apart_stays premises a b (inr (inr h)) = inr (inr h)
 
   apart_stays : (premises : List (Option Claim)) (claim : Claim) → IsApart nodes premises claim → IsApart (nodes ++ more) premises claim
-  apart_stays premises claim h = (h.0, h.1, h.2, elim h.3 [
-    | inl k ↦ inl (keep_apart_stays premises h.0 h.1 k)
-    | inr k ↦ inr (keep_apart_stays premises h.1 h.0 k)
-  ])
+  apart_stays premises claim h = (
+    h.0,
+    h.1,
+    h.2,
+    elim h.3 [
+      | inl k ↦ inl (keep_apart_stays premises h.0 h.1 k)
+      | inr k ↦ inr (keep_apart_stays premises h.1 h.0 k)
+    ],
+  )
 
   poly_rule_stays : (premises : List (Option Claim)) (claim : Claim) → IsPolyRule nodes premises claim
       → IsPolyRule (nodes ++ more) premises claim

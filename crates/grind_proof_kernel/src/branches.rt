@@ -7,9 +7,9 @@ ghost use Rattle.grind_differences.specs.Bounds.{opposite_form};
 ghost use Rattle.grind_proof_kernel.specs.Claims.{IsFormed};
 ghost use Rattle.grind_proof_kernel.specs.Typing.{branch_at, parent_of, literal_of, begin_of, Reaches, Serves, IsLiteral, AreOpposite, IsPairOf, IsParent, StandsBefore, StandsBehind, last_in, IsClosed, IsWhole, IsFirst, IsSecond, IsInPair, IsListed, IsGoodBranch};
 
-use grind_differences::{has_opposite, is_opposite_form};
 use crate::claim::{Claim, is_formed};
 use crate::proof::{Branch, Line, Proof};
+use grind_differences::{has_opposite, is_opposite_form};
 use grind_linear_forms::Form;
 use grind_term_graph::TermTable;
 

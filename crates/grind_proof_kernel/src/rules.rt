@@ -68,14 +68,14 @@ pub fn says(
             let answer = is_ideal(alloc, *divisor, factors, lines, premises, claim)?;
             Ok(answer)
         }
-        Rule::Poly => is_poly_rule(alloc, terms, lines, premises, claim),
-        Rule::Equal => is_equal(alloc, terms, lines, premises, claim),
-        Rule::Read => is_read(alloc, terms, lines, premises, claim),
-        Rule::Write => is_write(alloc, terms, lines, premises, claim),
-        Rule::Line => is_line(alloc, terms, lines, premises, claim),
-        Rule::Pinch => is_pinch(alloc, terms, lines, premises, claim),
-        Rule::Strict => is_strict(alloc, terms, lines, premises, claim),
-        Rule::Apart => is_apart(alloc, terms, lines, premises, claim),
+        Rule::Poly => Ok(is_poly_rule(alloc, terms, lines, premises, claim)?),
+        Rule::Equal => Ok(is_equal(alloc, terms, lines, premises, claim)?),
+        Rule::Read => Ok(is_read(alloc, terms, lines, premises, claim)?),
+        Rule::Write => Ok(is_write(alloc, terms, lines, premises, claim)?),
+        Rule::Line => Ok(is_line(alloc, terms, lines, premises, claim)?),
+        Rule::Pinch => Ok(is_pinch(alloc, terms, lines, premises, claim)?),
+        Rule::Strict => Ok(is_strict(alloc, terms, lines, premises, claim)?),
+        Rule::Apart => Ok(is_apart(alloc, terms, lines, premises, claim)?),
         _ => Ok(says_at_once(lemmas, goal, terms, literal, lines, line)),
     }
 }

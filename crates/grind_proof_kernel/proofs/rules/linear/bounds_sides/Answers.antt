@@ -9,5 +9,5 @@ returns-in_default c =
 
 pub returns : goal.returns
 returns c =
-    compared c.args.terms.now.nodes c.args.node (λ (a b : ℕ). difference c.args.terms.now.nodes a b ≡ Some c.args.form.now) c.in-Some.left c.in-Some.right
-    c.in_ok-is.is c.in-Some.ensures.some c.in_ok-is.ensures
+    compared c.args.terms.now.nodes c.args.node (λ (a b : ℕ). difference c.args.terms.now.nodes a b ≡ Some c.args.form.now) _ _
+    c.in_ok-is.is' c.in-Some.ensures.some c.in_ok-is.ensures

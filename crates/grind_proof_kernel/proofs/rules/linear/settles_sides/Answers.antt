@@ -1,5 +1,5 @@
 use Rattle.std.proofs.Common.{ℕ, ◌≡◌, Some, pos}
-use Rattle.grind_proof_kernel.specs.LinearRules.{IsDifferenceOver}
+use Rattle.grind_differences.specs.Differences.{IsDifferenceOver}
 use Rattle.grind_proof_kernel.proofs.BoundLemmas.{compared, not_compared}
 use Rattle.grind_proof_kernel.proofs.rules.linear.settles_sides.Goals as goal
 
@@ -9,5 +9,5 @@ returns-in_default c =
 
 pub returns : goal.returns
 returns c =
-    compared c.args.terms.now.nodes c.args.node (λ (a b : ℕ). IsDifferenceOver c.args.terms.now.nodes a b (pos 0) c.args.form.now) c.in-Some.left c.in-Some.right
-    c.in_ok-is.is c.in-Some.ensures.some c.in_ok-is.ensures
+    compared c.args.terms.now.nodes c.args.node (λ (a b : ℕ). IsDifferenceOver c.args.terms.now.nodes a b (pos 0) c.args.form.now) _ _
+    c.in_ok-is.is' c.in-Some.ensures.some c.in_ok-is.ensures
