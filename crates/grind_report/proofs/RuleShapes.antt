@@ -1,5 +1,5 @@
 -- Rules with factors among their premises, and rules without.
-use Rattle.std.proofs.Common.{◌≡◌, ℕ, List, [], ◌∷◌, map, decimal, ℤ, refl, sym, ap, ◌∙◌, arith}
+use Rattle.std.proofs.Common.{◌≡◌, ℕ, List, [], map, decimal, ℤ, refl, sym, ap, ◌∙◌, arith}
 use Rattle.grind_polynomials.specs.declared.poly.Term.{Term}
 use Rattle.grind_proof_kernel.specs.declared.proof.Rule.{Rule}
 use Rattle.grind_proof_kernel.specs.declared.proof.Rule.TheVariants as rules_of

@@ -108,11 +108,11 @@ pub fn put_poly_factors(
 {
     let mut rest = premises;
     let mut others = factors;
-    while let Some((premise, tail)) = rest.split_first() {
+    while let Some((line, tail)) = rest.split_first() {
         let Some((factor, left)) = others.split_first() else {
             return Ok(());
         };
-        words::put_number(out, *premise)?;
+        words::put_number(out, *line)?;
         put_poly(out, factor)?;
         rest = tail;
         others = left;
