@@ -23,12 +23,15 @@ use Rattle.grind_value_tables.specs.Truths.{ClaimTrue, AreTrue, InstancesTrue, I
 use Rattle.grind_value_tables.specs.Laws.{AssumesTruth, HasTypedLines, IsTableFor, Sound}
 use Rattle.grind_value_tables.proofs.Fronts.{IsSomeAnd-at}
 use Rattle.grind_value_tables.proofs.Meanings.{PremisesHold, IsSomeAnd-item, claim_is}
-use Rattle.grind_value_tables.proofs.EqualityRules.{hyp_sound, negated_sound, branch_sound, refl_sound, sym_sound, trans_sound, apart_sound, eq_sound, back_sound, truth_sound, untruth_sound, clash_sound}
+use Rattle.grind_value_tables.proofs.EqualityRules.{hyp_sound, negated_sound, branch_sound, refl_sound, sym_sound, trans_sound, eq_sound, back_sound, truth_sound, untruth_sound, clash_sound}
+use Rattle.grind_value_tables.proofs.Arithmetic.{ArithmeticLaws}
+use Rattle.grind_value_tables.proofs.LinearRules.{read_sound, write_sound, line_sound, combine_sound, pinch_sound, strict_sound, apart_sound}
+use Rattle.grind_value_tables.proofs.PolyRules.{poly_sound, ideal_sound, equal_sound}
 use Rattle.grind_value_tables.proofs.CongRule.{cong_sound}
 use Rattle.grind_value_tables.proofs.TableRule.{table_sound}
 use Rattle.grind_value_tables.proofs.Ancestors.{assumes_above}
 
-module _ (goal : GoalData) (nodes : List Node) (limit : ℕ) (v : ℕ → ℤ) (table : IsTermTable nodes limit)
+module _ (laws : ArithmeticLaws) (goal : GoalData) (nodes : List Node) (limit : ℕ) (v : ℕ → ℤ) (table : IsTermTable nodes limit)
     (lemmas : Lemmas) (respects : Respects nodes v) (hyps : AreTrue v goal.hyps) (show : v goal.show ≡ zero_value) where
   -- each rule lets a line claim what is true
   pub says_sound : (rule : Rule) (literal : Option Claim) (premises : List (Option Claim)) (claim : Claim)
@@ -54,7 +57,26 @@ module _ (goal : GoalData) (nodes : List Node) (limit : ℕ) (v : ℕ → ℤ) (
       untruth_sound v premises claim hold nodes respects table.1 says
   says_sound (rules.Table free) literal premises claim listed formed assumed hold says =
       table_sound v premises claim hold nodes respects table.0 free says
-  says_sound rules.Apart literal premises claim listed formed assumed hold says = apart_sound v premises claim hold says
+  says_sound rules.Read literal premises claim listed formed assumed hold says =
+      read_sound laws v premises claim hold nodes respects says
+  says_sound rules.Write literal premises claim listed formed assumed hold says =
+      write_sound laws v premises claim hold nodes respects formed says
+  says_sound rules.Line literal premises claim listed formed assumed hold says =
+      line_sound laws v premises claim hold nodes respects says
+  says_sound rules.Poly literal premises claim listed formed assumed hold says =
+      poly_sound laws v premises claim hold nodes respects says
+  says_sound (rules.Combine divisor factors) literal premises claim listed formed assumed hold says =
+      combine_sound laws v premises claim hold divisor factors says
+  says_sound rules.Pinch literal premises claim listed formed assumed hold says =
+      pinch_sound laws v premises claim hold nodes respects says
+  says_sound rules.Strict literal premises claim listed formed assumed hold says =
+      strict_sound laws v premises claim hold nodes respects says
+  says_sound rules.Apart literal premises claim listed formed assumed hold says =
+      apart_sound laws v premises claim hold nodes respects says
+  says_sound (rules.Ideal divisor factors) literal premises claim listed formed assumed hold says =
+      ideal_sound laws v premises claim hold divisor factors says
+  says_sound rules.Equal literal premises claim listed formed assumed hold says =
+      equal_sound laws v premises claim hold nodes respects says
   says_sound rules.Clash literal premises claim listed formed assumed hold says =
       clash_sound v premises claim hold nodes respects table.1 says
 
@@ -77,7 +99,7 @@ module _ (v : ℕ → ℤ) (branches : List Branch) (lines : List Line) (i branc
     premises_hold numbers (All-tail (Serves branches lines i branch) j numbers serve),
   )
 
-module _ (lemmas : Lemmas) (goal : GoalData) (proof : Proof) (v : ℕ → ℤ) (values : IsTableFor goal proof v)
+module _ (laws : ArithmeticLaws) (lemmas : Lemmas) (goal : GoalData) (proof : Proof) (v : ℕ → ℤ) (values : IsTableFor goal proof v)
     (hyps : AreTrue v goal.hyps) (instances : InstancesTrue v proof) (show : v goal.show ≡ zero_value) (typed : HasTypedLines lemmas goal proof) where
   -- each of the first lines, so many of them, claims what is true
   sound_below : (count i : ℕ) (line : Line) → i < count → slice_get proof.lines i ≡ Some line
@@ -86,10 +108,13 @@ module _ (lemmas : Lemmas) (goal : GoalData) (proof : Proof) (v : ℕ → ℤ) (
   sound_below (suc count) i line below is assumes =
       let it = IsSomeAnd-at (slice_get proof.lines i) (IsTypedAs lemmas goal proof i) line is
       (typed i (slice_get_within proof.lines i line is)) in
-      says_sound goal proof.terms.nodes proof.terms.limit v values.table lemmas values.respects hyps show line.rule
+      says_sound laws goal proof.terms.nodes proof.terms.limit v values.table lemmas values.respects hyps show line.rule
       (literal_of proof.branches line.branch) (claims_at proof.lines line.premises) line.claim
-      (λ n by_inst holds. instances n (i, subst (λ (o : Option Line). IsSomeAnd o
-      (λ (at : Line). IsByInst at.rule × (at.claim ≡ Holds n))) (sym is) (by_inst, holds))) it.claim
+      (λ n by_inst holds. instances n (
+        i,
+        subst (λ (o : Option Line). IsSomeAnd o
+            (λ (at : Line). IsByInst at.rule × (at.claim ≡ Holds n))) (sym is) (by_inst, holds),
+      )) it.claim
       (λ literal e. assumes 0 line.branch literal refl e)
       (premises_hold v proof.branches proof.lines i line.branch
       (λ j other earlier. sound_below count j other (omega arith)) assumes line.premises it.premises) it.rule
@@ -98,6 +123,6 @@ module _ (lemmas : Lemmas) (goal : GoalData) (proof : Proof) (v : ℕ → ℤ) (
       → ClaimTrue v line.claim
   sound_line i line is assumes = sound_below (suc i) i line (omega arith) is assumes
 
-pub sound_lines : Sound
-sound_lines lemmas goal proof v values hyps instances show typed i line is assumes =
-    sound_line lemmas goal proof v values hyps instances show typed i line is assumes
+pub sound_lines : ArithmeticLaws → Sound
+sound_lines laws lemmas goal proof v values hyps instances show typed i line is assumes =
+    sound_line laws lemmas goal proof v values hyps instances show typed i line is assumes

@@ -1,9 +1,13 @@
 -- What a table of values makes true.
-use Rattle.std.specs.Prelude.{◌≡◌, ◌≢◌, ℕ, ◌<◌, List, All, ⊤, ℤ, slice_get}
+use Rattle.std.specs.Prelude.{◌≡◌, ◌≢◌, ℕ, ◌<◌, List, All, ⊤, ℤ, pos, ◌≤ℤ◌, slice_get}
 use Rattle.std.specs.Option.{IsSomeAnd}
+use Rattle.grind_linear_forms.specs.declared.form.Part.{Part}
+use Rattle.grind_linear_forms.specs.Values.{form_value}
+use Rattle.grind_polynomials.specs.declared.poly.Term.{Term}
+use Rattle.grind_polynomials.specs.Values.{poly_value}
 use Rattle.grind_schemes.specs.Goals.{GoalData}
 use Rattle.grind_proof_kernel.specs.declared.claim.Claim.{Claim}
-use Rattle.grind_proof_kernel.specs.declared.claim.Claim.TheVariants.{Holds, Fails, Same, Differ, Absurd}
+use Rattle.grind_proof_kernel.specs.declared.claim.Claim.TheVariants.{Holds, Fails, Same, Differ, AtMost, Zero, Absurd}
 use Rattle.grind_proof_kernel.specs.declared.proof.Line.{Line}
 use Rattle.grind_proof_kernel.specs.declared.proof.Proof.{Proof}
 use Rattle.grind_proof_kernel.specs.declared.proof.Rule.{Rule}
@@ -16,6 +20,8 @@ ClaimTrue v (Holds n) = v n ≡ one
 ClaimTrue v (Fails n) = v n ≡ zero_value
 ClaimTrue v (Same a b) = v a ≡ v b
 ClaimTrue v (Differ a b) = v a ≢ v b
+ClaimTrue v (AtMost form) = form_value v form ≤ℤ pos 0
+ClaimTrue v (Zero poly) = poly_value v poly ≡ pos 0
 ClaimTrue v Absurd = ⊥
 
 -- the claim speaks of the first nodes alone, so many of them
@@ -24,6 +30,8 @@ IsWithin count (Holds n) = n < count
 IsWithin count (Fails n) = n < count
 IsWithin count (Same a b) = (a < count) × (b < count)
 IsWithin count (Differ a b) = (a < count) × (b < count)
+IsWithin count (AtMost form) = All (λ (part : Part). part.node < count) form.parts
+IsWithin count (Zero poly) = All (λ (term : Term). All (λ n. n < count) term.monomial) poly
 IsWithin count Absurd = ⊤
 
 -- these formulas are all true
