@@ -1,5 +1,5 @@
 -- What a branch assumes, and what its ancestors do.
-use Rattle.std.specs.Prelude.{◌≡◌, ℕ, zero, suc, List, Option, Some, None, option_and_then, ℤ, refl}
+use Rattle.std.specs.Prelude.{◌≡◌, ℕ, zero, suc, List, Some, None, option_and_then, ℤ, refl}
 use Rattle.std.proofs.Common.{sym, ap, ◌∙◌, subst}
 use Rattle.std.proofs.lemmas.Option.{same_Some, none-some}
 use Rattle.grind_proof_kernel.specs.declared.claim.Claim.{Claim}

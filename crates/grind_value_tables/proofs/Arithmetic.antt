@@ -1,5 +1,5 @@
 -- What a table of values that respects the terms says of arithmetic and order.
-use Rattle.std.specs.Prelude.{◌≡◌, ◌↔◌, ℕ, List, [], ◌∷◌, Some, map, slice_get, ℤ, pos, ◌+ℤ◌, ◌*ℤ◌, neg_ℤ, ◌≤ℤ◌}
+use Rattle.std.specs.Prelude.{◌≡◌, ◌↔◌, ℕ, List, [], ◌∷◌, map, slice_get, ℤ, ◌+ℤ◌, ◌*ℤ◌, neg_ℤ, ◌≤ℤ◌}
 use Rattle.std.proofs.Common.{arith, ap}
 use Rattle.grind_lemmas.proofs.Rings.{linear}
 use Rattle.grind_term_graph.specs.declared.head.Head.{Head}

@@ -10,7 +10,6 @@ use Rattle.std.proofs.lemmas.Option.{same_Some, none-some, slice_get-get_or}
 use Rattle.grind_lemmas.proofs.Rings.{linear}
 use Rattle.grind_term_graph.specs.declared.node.Node.{Node}
 use Rattle.grind_term_graph.specs.Terms.{prop, sort_at}
-use Rattle.grind_linear_forms.specs.Forms.{FormData}
 use Rattle.grind_linear_forms.specs.Values.{form_value}
 use Rattle.grind_differences.specs.Bounds.{opposite_form}
 use Rattle.grind_differences.specs.Laws.{OppositesHaveTheirValues}

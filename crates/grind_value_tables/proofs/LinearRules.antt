@@ -1,5 +1,5 @@
 -- Each rule over linear forms lets a line claim what is true, where its premises are.
-use Rattle.std.specs.Prelude.{◌≡◌, ◌≢◌, ◌↔◌, ℕ, List, [], ◌∷◌, ◌⊎◌, Option, Some, None, IfSome, ℤ, pos, negsuc, ◌+ℤ◌, ◌*ℤ◌, neg_ℤ, ◌≤ℤ◌, ◌<ℤ◌, refl}
+use Rattle.std.specs.Prelude.{◌≡◌, ◌≢◌, ℕ, List, [], ◌∷◌, Option, Some, None, IfSome, ℤ, pos, negsuc, ◌+ℤ◌, ◌*ℤ◌, neg_ℤ, ◌≤ℤ◌, ◌<ℤ◌, refl}
 use Rattle.std.specs.Option.{option_and_then}
 use Rattle.std.proofs.Common.{arith, sym, ap, ◌∙◌, subst, inl, inr}
 use Rattle.std.proofs.lemmas.Int.{by_lt_z}
@@ -12,16 +12,14 @@ use Rattle.grind_term_graph.specs.declared.node.Node.{Node}
 use Rattle.grind_linear_forms.specs.Forms.{FormData, number_form}
 use Rattle.grind_linear_forms.specs.Sums.{scaled_sum}
 use Rattle.grind_linear_forms.specs.Values.{parts_value, form_value}
-use Rattle.grind_polynomials.specs.declared.poly.Term.{Term}
 use Rattle.grind_polynomials.specs.Values.{poly_value}
 use Rattle.grind_differences.specs.Bounds.{plus, IsWithinCut}
-use Rattle.grind_differences.specs.Differences.{difference, IsDifferenceOver, AreApartByReading}
-use Rattle.grind_differences.specs.Equations.{form_of}
+use Rattle.grind_differences.specs.Differences.{difference, AreApartByReading}
 use Rattle.grind_proof_kernel.specs.declared.claim.Claim.{Claim}
 use Rattle.grind_proof_kernel.specs.declared.claim.Claim.TheVariants.{Holds, Fails, Same, Differ, AtMost, Zero, Absurd}
 use Rattle.grind_proof_kernel.specs.Claims.{IsFormed}
 use Rattle.grind_proof_kernel.specs.LinearRules.{IsRead, IsWrite, IsLine, taken, combined, IsCombine, IsPinch, IsStrict, IsBoundOver, KeepApart, IsApart, IsTooGreat}
-use Rattle.grind_value_tables.specs.Respects.{one, zero_value, Respects}
+use Rattle.grind_value_tables.specs.Respects.{Respects}
 use Rattle.grind_value_tables.specs.Truths.{ClaimTrue}
 use Rattle.grind_value_tables.proofs.Meanings.{PremisesHold, chained, false≢one, false_unless, claim_is, premises_are, premise_is, formula_value}
 use Rattle.grind_value_tables.proofs.Arithmetic.{ArithmeticLaws, over_value, plus_value, arithmetic, comparison_value}

@@ -7,7 +7,7 @@ use lib.Signed.{le_z}
 use Rattle.std.proofs.lemmas.Bool.{cond-true, cond-false, lt-ltb, ltb-true, false_from_ne_true, eqb-true, eq-eqb}
 use Rattle.std.proofs.lemmas.List.Elements.{All-tail}
 use Rattle.std.proofs.lemmas.Option.{none-some, same_Some}
-use Rattle.grind_lemmas.proofs.Rings.{linear, int_mul-assoc, int_mul-comm}
+use Rattle.grind_lemmas.proofs.Rings.{linear, int_mul-assoc}
 use Rattle.grind_monomials.proofs.ValueLemmas.{unit_right}
 use Rattle.grind_monomials.specs.Counts.{monomial_value}
 use Rattle.grind_linear_forms.specs.declared.form.Part.{Part}
