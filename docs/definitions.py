@@ -22,7 +22,7 @@ FILES = {
     "grind_classes": ["Classes"],
     "grind_congruence": ["Derivable", "Congruence", "Edges", "Exact", "Asserted"],
     "grind_schemes": ["Labels", "Goals", "Limits", "Schemes", "Theorems", "Instances", "Laws"],
-    "grind_proof_kernel": ["Claims", "Tables", "Rules", "Typing", "Judgement", "Laws"],
+    "grind_proof_kernel": ["Claims", "Tables", "LinearRules", "PolyRules", "Rules", "Typing", "Judgement", "Laws"],
     "grind_par_check": ["Judges"],
     "grind_explain": ["Explained"],
     "grind_case_split": ["Congruences", "Writing", "Building", "Given", "Laws"],

@@ -18,6 +18,7 @@ module _ (nodes : List Node) (n : ℕ) where
     where
       first_same : (p q r s : ℕ) → p ∷ q ∷ [] ≡ r ∷ s ∷ [] → p ≡ r
       first_same p q r s e = cc
+
       second_same : (p q r s : ℕ) → p ∷ q ∷ [] ≡ r ∷ s ∷ [] → q ≡ s
       second_same p q r s e = cc
 

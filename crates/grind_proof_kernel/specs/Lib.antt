@@ -9,4 +9,5 @@ pub mod Typing
 pub mod Judgement
 pub mod Laws
 pub mod RuleCases
+pub mod ArithmeticCases
 pub mod TypingCases

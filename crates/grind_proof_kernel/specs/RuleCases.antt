@@ -6,11 +6,15 @@ use Rattle.grind_term_graph.specs.declared.head.Head.TheVariants as head
 use Rattle.grind_term_graph.specs.declared.node.Node.{Node}
 use Rattle.grind_term_graph.specs.Terms.{prop, int, opening, sort_at}
 use Rattle.grind_schemes.specs.Goals.{GoalData, goal_data}
+use Rattle.grind_schemes.specs.Theorems.{theorem_data}
+use Rattle.grind_schemes.specs.declared.scheme.Scheme.{Var}
+use Rattle.grind_schemes.specs.declared.limits.Limits.{Limits}
+use Rattle.grind_schemes.specs.declared.lemmas.Lemmas.{Lemmas}
 use Rattle.grind_proof_kernel.specs.declared.claim.Claim.{Claim}
 use Rattle.grind_proof_kernel.specs.declared.claim.Claim.TheVariants.{Holds, Fails, Same, Differ, Absurd}
 use Rattle.grind_proof_kernel.specs.Tables.{truth_of, Follows, IsTable}
 use Rattle.grind_proof_kernel.specs.LinearRules.{KeepApart, IsApart}
-use Rattle.grind_proof_kernel.specs.Rules.{IsHyp, IsTrans, IsCong, IsClash, AreOpposed, AreSplit}
+use Rattle.grind_proof_kernel.specs.Rules.{IsHyp, IsInst, IsTrans, IsCong, IsClash, AreOpposed, AreSplit}
 
 -- True, False, two numbers a and b (2 and 3), f(a) and f(b) (4 and 5), and a formula p, its negation and p or not p (6, 7 and 8)
 abbrev nodes : List Node
@@ -32,6 +36,17 @@ hyp_counts_from_one = (0, 6, refl, refl, refl, refl)
 
 pub hyp_has_no_zero : (goal : GoalData) (claim : Claim) → IsHyp goal 0 [] claim → ⊥
 hyp_has_no_zero goal claim h = absurd (omega (arith, h.2))
+
+-- one theorem, which says that each formula holds
+abbrev of_theorem : Limits → Lemmas
+of_theorem limits = record { theorems = theorem_data [] (prop ∷ []) (Var 0) [] ∷ []; limits = limits }
+
+-- a formula may stand for its variable, and a number may not
+pub inst_of_a_formula : (limits : Limits) → IsInst (of_theorem limits) nodes 0 (6 ∷ []) [] (Holds 6)
+inst_of_a_formula limits = (6, (refl, refl), refl, refl)
+
+pub inst_of_a_number : (limits : Limits) → IsInst (of_theorem limits) nodes 0 (2 ∷ []) [] (Holds 2) → ⊥
+inst_of_a_number limits h = let wrong = h.1.0 in absurd cc
 
 -- equalities make one where they meet
 pub trans_meets : IsTrans (Some (Same 2 3) ∷ Some (Same 3 4) ∷ []) (Same 2 4)

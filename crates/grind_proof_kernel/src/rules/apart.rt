@@ -5,11 +5,10 @@ ghost use Rattle.grind_proof_kernel.specs.declared.claim.Claim.TheVariants.{Same
 ghost use Rattle.grind_proof_kernel.specs.Claims.{claims_at};
 ghost use Rattle.grind_proof_kernel.specs.LinearRules.{IsBoundOver, AreApartAlong, KeepApart, IsApart};
 
-
 use super::premises::{only_premise, three_premises};
-use grind_differences::{are_apart_by_reading, is_more_than_difference};
 use crate::claim::Claim;
 use crate::proof::Line;
+use grind_differences::{are_apart_by_reading, is_more_than_difference};
 use grind_outside::Memory;
 use grind_term_graph::{NodeId, TermTable};
 use std::alloc::Global;

@@ -108,12 +108,7 @@ fn with_premise(
 }
 
 /// The sum, and the bound so often, where that is not negative.
-fn with_bound(
-    alloc: Global,
-    sum: &Form,
-    factor: i128,
-    form: &Form,
-) -> Result<Option<Form>, Memory>
+fn with_bound(alloc: Global, sum: &Form, factor: i128, form: &Form) -> Result<Option<Form>, Memory>
     ensures { IfOk result (λ found. found ≡ option_and_then (λ form. scaled_sum sum.now (pos 1) form factor)
         (taken factor (Some (AtMost form.now)))) }
 {
@@ -142,12 +137,7 @@ fn with_equation(
 }
 
 /// The sum, and the form so often.
-fn with_form(
-    alloc: Global,
-    sum: &Form,
-    factor: i128,
-    form: &Form,
-) -> Result<Option<Form>, Memory>
+fn with_form(alloc: Global, sum: &Form, factor: i128, form: &Form) -> Result<Option<Form>, Memory>
     ensures { IfOk result (λ found. found ≡ scaled_sum sum.now (pos 1) form.now factor) }
 {
     match add_scaled(alloc, sum, 1, form, factor) {

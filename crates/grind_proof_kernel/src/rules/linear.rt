@@ -8,7 +8,8 @@ use super::premises::{only_premise, two_premises};
 use crate::claim::Claim;
 use crate::proof::Line;
 use grind_differences::{
-    is_difference, is_difference_or_more, is_difference_plus_one, is_more_than_difference, is_plus_one,
+    is_difference, is_difference_or_more, is_difference_plus_one, is_more_than_difference,
+    is_plus_one,
 };
 use grind_linear_forms::Form;
 use grind_outside::Memory;
@@ -71,12 +72,7 @@ pub fn is_write(
 }
 
 /// Whether the node is a comparison, and the form the difference of its sides.
-fn bounds_sides(
-    alloc: Global,
-    terms: &TermTable,
-    node: NodeId,
-    form: &Form,
-) -> Result<bool, Memory>
+fn bounds_sides(alloc: Global, terms: &TermTable, node: NodeId, form: &Form) -> Result<bool, Memory>
     ensures { IfOk result (λ yes. IsTrue yes ↔ Compares terms.now.nodes node
         (λ a b. difference terms.now.nodes a b ≡ Some form.now)) }
 {
