@@ -1,5 +1,5 @@
 -- Worked cases: of each word a case that holds, and one that fails.
-use Rattle.std.specs.Prelude.{◌≡◌, List, [], ◌∷◌, pos, ⊤, refl}
+use Rattle.std.specs.Prelude.{◌≡◌, [], ◌∷◌, pos, ⊤, refl}
 use Rattle.std.proofs.Common.{subst}
 use Rattle.grind_monomials.specs.declared.order.Place.{Place}
 use Rattle.grind_monomials.specs.declared.order.Place.TheVariants.{Above, Same, Below}
