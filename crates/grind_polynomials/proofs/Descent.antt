@@ -11,7 +11,7 @@ use Rattle.grind_monomials.specs.Order.{place}
 use Rattle.grind_monomials.specs.Monomials.{IsMonomial, product, quotient}
 use Rattle.grind_monomials.proofs.Clauses.{place-one}
 use Rattle.grind_monomials.proofs.Orders.{nodes-itself}
-use Rattle.grind_monomials.proofs.CountLemmas.{count-product, counts-decide, rises-product, rises-quotient, product-quotient, place-product}
+use Rattle.grind_monomials.proofs.CountLemmas.{rises-quotient, product-quotient, place-product}
 use Rattle.grind_polynomials.specs.declared.poly.Term.{Term}
 use Rattle.grind_polynomials.specs.Polynomials.{StartsBelow, IsPoly, fit}
 use Rattle.grind_polynomials.specs.Sums.{signed, in_front, front, with_more, with_multiple, with_multiples}
@@ -23,16 +23,12 @@ use Rattle.grind_polynomials.proofs.Fits.{fit_is, same_Ok}
 use Rattle.grind_polynomials.proofs.Putting.{more-nil, more-above, more-same, more-below}
 use Rattle.grind_polynomials.proofs.Products.{multiples-nil, multiples-cons}
 use Rattle.grind_polynomials.proofs.Falling.{made_of, front-made, behind-made, multiple-made, starts-chain}
+use Rattle.grind_polynomials.proofs.Rows.{product-turned}
 use Rattle.grind_polynomials.proofs.Divisors.{weight-times_lead}
 use Rattle.grind_polynomials.proofs.ReductionLemmas.{unit-nonzero, one-empty, reducer-none, reducer-cons, target-here, target-later, target-none, scaled-nil, scaled-made, rest-made}
 use Rattle.grind_polynomials.proofs.RankLemmas.{low-product, low-quotient, rank-falls}
 
 -- ---- monomials
-product-turned : (a b : List ℕ) → IsMonomial a → IsMonomial b → product a b ≡ product b a
-product-turned a b left right =
-    counts-decide (product a b) (product b a) 0 0 (rises-product a b 0 left right) (rises-product b a 0 right left)
-    (λ n. let one = count-product n a b in let two = count-product n b a in omega arith)
-
 place-itself : (m : List ℕ) → place m m ≡ Same
 place-itself m = place-one m m (omega arith) (omega arith) ∙ nodes-itself m
 

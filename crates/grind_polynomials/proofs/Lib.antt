@@ -2,6 +2,7 @@ pub mod Fits
 pub mod Putting
 pub mod Products
 pub mod Falling
+pub mod Rows
 pub mod SumValues
 pub mod Degrees
 pub mod ReadingLemmas

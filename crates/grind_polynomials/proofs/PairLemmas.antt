@@ -1,5 +1,5 @@
 -- The polynomial in which two leading terms cancel.
-use Rattle.std.proofs.Common.{◌≡◌, ◌≢◌, inl, inr, ℕ, true, false, List, [], ◌∷◌, length, ℤ, pos, ◌+ℤ◌, ◌*ℤ◌, neg_ℤ, unsigned_abs, Ok, Err, arith, sym, ap, ◌∙◌, refl}
+use Rattle.std.proofs.Common.{◌≡◌, ◌≢◌, inl, inr, ℕ, true, false, List, [], ◌∷◌, length, ℤ, pos, ◌+ℤ◌, ◌*ℤ◌, neg_ℤ, unsigned_abs, Ok, Err, arith, sym, ap, ◌∙◌, refl, subst}
 use Rattle.std.proofs.lemmas.Bool.{cond-true, cond-false, cases_Bool}
 use Rattle.std.proofs.lemmas.Nat.Gcd.{same_from_IsGcd}
 use Rattle.grind_lemmas.proofs.Rings.{linear}
@@ -19,6 +19,14 @@ use Rattle.grind_polynomials.proofs.SumValues.{value-multiples}
 pub mono-lead : (a : List Term) → IsPoly a → IsMonomial (lead_monomial a)
 mono-lead [] poly = tt
 mono-lead (term ∷ rest) poly = poly.0
+
+-- what a leading monomial lacks of the least common multiple is a monomial
+pub mono-cofactor : (a b : List Term) (whole kept lead part now : List ℕ) → IsMonomial (lead_monomial a) → IsMonomial (lead_monomial b)
+    → whole ≡ lead_multiple a b → kept ≡ whole → part ≡ quotient kept lead → now ≡ part → IsMonomial now
+mono-cofactor a b whole kept lead part now one two e f g h =
+    subst IsMonomial (sym (h ∙ g ∙ ap (λ (n : List ℕ). quotient n lead) (f ∙ e)))
+    (rises-quotient (lead_multiple a b) lead 0
+    (rises-product (lead_monomial a) (quotient (lead_monomial b) (lead_monomial a)) 0 one (rises-quotient (lead_monomial b) (lead_monomial a) 0 two)))
 
 pub nonzero-lead : (a : List Term) → IsPoly a → a ≢ [] → lead_coefficient a ≢ pos 0
 nonzero-lead [] poly some e = some refl

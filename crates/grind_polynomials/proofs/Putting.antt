@@ -46,7 +46,7 @@ pub behind-step : (done : List Term) (x : Term) (rest : Result (List Term) PolyR
 behind-step done x (Ok terms) = ap (λ (all : List Term). Ok all) (sym (append_assoc done (x ∷ []) terms))
 behind-step done x (Err e) = refl
 
-in_front-append : (c : ℤ) (m : List ℕ) (rest : List Term) → in_front c m rest ≡ in_front c m [] ++ rest
+pub in_front-append : (c : ℤ) (m : List ℕ) (rest : List Term) → in_front c m rest ≡ in_front c m [] ++ rest
 in_front-append (pos zero) m rest = refl
 in_front-append (pos (suc n)) m rest = refl
 in_front-append (negsuc n) m rest = refl
@@ -98,8 +98,3 @@ pub put_end : (z : ℤ) (m : List ℕ) (whole : Result (List Term) PolyRefusal) 
 put_end z m whole done old rest e f so_far =
     (λ i. behind done (front (zero_first z i) m (reverse (f i))))
     ∙ ap (behind done) (sym (more-nil z m)) ∙ ap (λ (terms : List Term). behind done (with_more z m (reverse terms))) (sym e) ∙ so_far
-
-pub put_begin : (z : ℤ) (m : List ℕ) (done rest terms : List Term) → done ≡ [] → rest ≡ reverse terms → reverse rest ≡ terms
-    → behind done (with_more z m (reverse rest)) ≡ with_more z m terms
-put_begin z m done rest terms e f g =
-    (λ i. behind (e i) (with_more z m (g i))) ∙ behind-nil (with_more z m terms)

@@ -1,5 +1,7 @@
 pub mod Polynomials
 pub mod Sums
+pub mod Rows
+pub mod RowCases
 pub mod Values
 pub mod Readings
 pub mod Marks

@@ -1,11 +1,14 @@
 //! Products of polynomials, added to others.
 ghost use Rattle.std.specs.Prelude.{◌≡◌, ◌+◌, [], length, pos, true, false, Ok, Err, IfOk, IsErrOf};
 ghost use Rattle.grind_polynomials.specs.declared.poly.PolyRefusal.TheVariants.{Overflow, Degree};
-ghost use Rattle.grind_polynomials.specs.Polynomials.{is_over};
+ghost use Rattle.grind_monomials.specs.Monomials.{IsMonomial, product};
+ghost use Rattle.grind_polynomials.specs.Polynomials.{IsPoly, is_over};
+ghost use Rattle.grind_polynomials.specs.Rows.{AreAbove, ArePassed, all_of};
 ghost use Rattle.grind_polynomials.specs.Sums.{with_multiples, with_product, with_products, with_all_products, sum_product};
 
 use crate::multiples::{add_multiple, add_multiples};
 use crate::poly::{Poly, PolyRefusal, Term, copied};
+use crate::put::{Parts, joined, parts_of};
 use grind_outside::List;
 use grind_term_graph::NodeId;
 use std::alloc::Global;
@@ -55,6 +58,8 @@ fn add_all_products(
     bs: &[Term],
     terms: List<Term>,
 ) -> Result<List<Term>, PolyRefusal>
+    requires first { IsPoly qs.now }
+    requires second { IsPoly bs.now }
     ensures ok { IfOk result (λ all. with_all_products qs.now bs.now terms ≡ Ok all) }
     ensures overflow { IsErrOf result PolyRefusal.Overflow → with_all_products qs.now bs.now terms ≡ Err Overflow }
     ensures degree { IsErrOf result PolyRefusal.Degree → with_all_products qs.now bs.now terms ≡ Err Degree }
@@ -75,29 +80,34 @@ fn add_products(
     bs: &[Term],
     terms: List<Term>,
 ) -> Result<List<Term>, PolyRefusal>
+    requires monomial { IsMonomial q.now.monomial }
+    requires poly { IsPoly bs.now }
     ensures ok { IfOk result (λ all. with_products q.now bs.now terms ≡ Ok all) }
     ensures overflow { IsErrOf result PolyRefusal.Overflow → with_products q.now bs.now terms ≡ Err Overflow }
     ensures degree { IsErrOf result PolyRefusal.Degree → with_products q.now bs.now terms ≡ Err Degree }
 {
-    let mut all = terms;
+    let mut parts = parts_of(alloc, terms)?;
     let mut rest = bs;
     while let Some((b, tail)) = rest.split_first() {
-        all = add_one(alloc, q, b, all)?;
+        parts = add_one(alloc, q, b, parts)?;
         rest = tail;
     }
+    let all = joined(parts)?;
     Ok(all)
 }
 
-// The product of two terms, added.
-fn add_one(alloc: Global, q: &Term, b: &Term, terms: List<Term>) -> Result<List<Term>, PolyRefusal>
-    ensures ok { IfOk result (λ all. with_product q.now b.now terms ≡ Ok all) }
-    ensures overflow { IsErrOf result PolyRefusal.Overflow → with_product q.now b.now terms ≡ Err Overflow }
-    ensures degree { IsErrOf result PolyRefusal.Degree → with_product q.now b.now terms ≡ Err Degree }
+// The product of two terms, added to parts of a sum, and done.
+fn add_one(alloc: Global, q: &Term, b: &Term, parts: Parts) -> Result<Parts, PolyRefusal>
+    requires { AreAbove (product q.now.monomial b.now.monomial) parts.done }
+    ensures ok { IfOk result (λ all. with_product q.now b.now (all_of parts) ≡ Ok (all_of all)) }
+    ensures passed { IfOk result (λ all. ArePassed (product q.now.monomial b.now.monomial) all.done) }
+    ensures overflow { IsErrOf result PolyRefusal.Overflow → with_product q.now b.now (all_of parts) ≡ Err Overflow }
+    ensures degree { IsErrOf result PolyRefusal.Degree → with_product q.now b.now (all_of parts) ≡ Err Degree }
 {
     if is_over(q.monomial.as_slice(), b.monomial.as_slice()) {
         return Err(PolyRefusal::Degree);
     }
-    let all = add_multiple(alloc, false, q.coefficient, q.monomial.as_slice(), b, terms)?;
+    let all = add_multiple(alloc, false, q.coefficient, q.monomial.as_slice(), b, parts)?;
     Ok(all)
 }
 

@@ -2,11 +2,11 @@ use Rattle.std.proofs.Common.{◌≡◌, ◌<◌, ◌≤◌, ℕ, true, List, le
 use Rattle.std.specs.Int.{w128}
 use Rattle.std.proofs.lemmas.Bool.{le-ltb, lt-ltb}
 use Rattle.std.proofs.lemmas.Int.{to_z-of_z}
-use Rattle.grind_monomials.specs.Monomials.{quotient}
+use Rattle.grind_monomials.specs.Monomials.{IsMonomial, quotient}
 use Rattle.grind_polynomials.specs.declared.poly.PolyRefusal.TheVariants.{Overflow}
 use Rattle.grind_polynomials.specs.Sums.{and_then, with_multiples}
 use Rattle.grind_polynomials.specs.Pairs.{divided_by, IsLeadGcd, lead_multiple, s_polynomial}
-use Rattle.grind_polynomials.proofs.PairLemmas.{s-over, s-within, poly-s}
+use Rattle.grind_polynomials.proofs.PairLemmas.{mono-cofactor, s-over, s-within, poly-s}
 use Rattle.grind_polynomials.proofs.pairs.s_poly.Goals as goal
 
 pub returns-then-len-gt16-clause-degree : goal.returns-then-len-gt16-clause-degree
@@ -14,6 +14,20 @@ returns-then-len-gt16-clause-degree c =
     let large : 16 < length c.in_ok-whole.whole = search rules in
     let judged = lt-ltb 16 (length (lead_multiple c.args.a.now c.args.b.now)) (subst (λ (xs : List ℕ). 16 < length xs) c.in_ok-whole.ensures large) in
     λ e h. s-over c.args.a.now c.args.b.now h judged
+
+pub add_multiples-requires-clause-monomial : goal.add_multiples-requires-clause-monomial
+add_multiples-requires-clause-monomial c =
+    mono-cofactor c.args.a.now c.args.b.now c.in_ok-whole.whole c.as_slice.result.now c.lead_monomial.result.now c.in_ok-left.left c.as_slice-3.result.now
+    (subst IsMonomial c.lead_monomial.ensures.value c.lead_monomial.ensures.keeps)
+    (subst IsMonomial c.lead_monomial-2.ensures.value c.lead_monomial-2.ensures.keeps)
+    c.in_ok-whole.ensures c.as_slice.ensures.value c.in_ok-left.ensures c.as_slice-3.ensures.value
+
+pub add_multiples-requires-2-clause-monomial : goal.add_multiples-requires-2-clause-monomial
+add_multiples-requires-2-clause-monomial c =
+    mono-cofactor c.args.a.now c.args.b.now c.in_ok-whole.whole c.as_slice-2.result.now c.lead_monomial-2.result.now c.in_ok-right.right c.as_slice-4.result.now
+    (subst IsMonomial c.lead_monomial.ensures.value c.lead_monomial.ensures.keeps)
+    (subst IsMonomial c.lead_monomial-2.ensures.value c.lead_monomial-2.ensures.keeps)
+    c.in_ok-whole.ensures c.as_slice-2.ensures.value c.in_ok-right.ensures c.as_slice-4.ensures.value
 
 pub returns-in_err-start-clause-overflow : goal.returns-in_err-start-clause-overflow
 returns-in_err-start-clause-overflow c =

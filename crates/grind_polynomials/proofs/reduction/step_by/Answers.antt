@@ -1,7 +1,8 @@
-use Rattle.std.proofs.Common.{inl, inr, true, ℤ, pos, ◌/◌, unsigned_abs, FitsSigned, IsErrOf, rules, sym, ap, ◌∙◌, subst}
+use Rattle.std.proofs.Common.{inl, inr, true, ℕ, List, ℤ, pos, ◌/◌, unsigned_abs, FitsSigned, IsErrOf, rules, sym, ap, ◌∙◌, subst}
 use Rattle.std.specs.Int.{w128, IsGcd}
 use Rattle.std.proofs.lemmas.Int.{to_z-of_z}
-use Rattle.grind_monomials.specs.Monomials.{quotient}
+use Rattle.grind_monomials.specs.Monomials.{IsMonomial, quotient}
+use Rattle.grind_monomials.proofs.CountLemmas.{rises-quotient}
 use Rattle.grind_polynomials.specs.declared.poly.PolyRefusal.TheVariants.{Overflow}
 use Rattle.grind_polynomials.specs.Polynomials.{fit}
 use Rattle.grind_polynomials.specs.Sums.{and_then, signed, with_multiples}
@@ -35,6 +36,11 @@ returns-in_default-weight_of-clause-overflow c =
     let over = ap (λ (lead : ℤ). fit (signed (is_negative lead) (divided_by c.common_divisor-divisor.result c.args.term.now.coefficient))) (sym c.lead_coefficient-lead.ensures.value)
     ∙ simp (back_lead, back_term) at c.in_default-weight_of.ensures in
     λ e. record { divisor = c.common_divisor-divisor.result; divisor_is = gcd; refused = inl (rest-weight (target_of c.args.term.now c.args.element.now) c.common_divisor-divisor.result c.args.state.now.rest c.in-Some.unit Overflow unit over) }
+
+pub add_multiples-requires-clause-monomial : goal.add_multiples-requires-clause-monomial
+add_multiples-requires-clause-monomial c =
+    let is = c.as_slice-2.ensures.value ∙ c.in_ok-more.ensures ∙ ap (λ (n : List ℕ). quotient n c.lead_monomial.result.now) c.as_slice.ensures.value in
+    subst IsMonomial (sym is) (rises-quotient c.args.term.now.monomial c.lead_monomial.result.now 0 c.requires.monomial)
 
 pub returns-in_err-start-clause-overflow : goal.returns-in_err-start-clause-overflow
 returns-in_err-start-clause-overflow c =
