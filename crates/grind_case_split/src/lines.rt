@@ -10,6 +10,7 @@ ghost use Rattle.grind_case_split.specs.Writing.{IsRooted, Claims, IsWritten, ro
 
 use crate::fact::Fact;
 use grind_outside::{List, Memory};
+use grind_proof_kernel::laws::{typed_lines_stay, typed_next_line};
 use grind_proof_kernel::{Claim, Line, Proof, Rule, derive};
 use grind_schemes::{Goal, Lemmas};
 use grind_term_graph::NodeId;
@@ -32,6 +33,8 @@ fn put(
     ensures written { IfOk result (λ number. IsWritten lemmas.now goal.now proof.old proof.new number claim) }
     ensures appended { OnOk result (proof.new ≡ appended proof.old (root_line rule premises claim)) }
 {
+    typed_lines_stay();
+    typed_next_line();
     let line = Line {
         branch: 0,
         rule,
