@@ -1,13 +1,9 @@
 -- Sides of comparisons.
-use Rattle.std.proofs.Common.{◌≡◌, ◌↔◌, ℕ, ◌<◌, List, [], ◌∷◌, ◌++◌, length, map, Option, Some, None, Bool, true, false, true≢false, cond, refl, sym, ap, ◌∙◌, subst, arith, inl, inr, ℤ, pos, negsuc, neg_ℤ, ◌+ℤ◌}
-use Rattle.std.specs.Prelude.{IsTrue, nat_eq, slice_get}
-use Rattle.std.specs.Option.{IsSomeAnd, option_and_then, option_map}
-use Rattle.std.proofs.lemmas.Bool.{ne_eqb}
-use Rattle.std.proofs.lemmas.Bool.Decides.{Decides-eqb}
-use Rattle.std.proofs.lemmas.Option.{same_Some, none-some, slice_get_within}
+use Rattle.std.proofs.Common.{◌≡◌, ◌↔◌, ℕ, List, [], ◌∷◌, Option, Some, None, Bool, false, true≢false, sym, ◌∙◌, subst}
+use Rattle.std.specs.Prelude.{IsTrue, slice_get}
+use Rattle.std.specs.Option.{IsSomeAnd}
 use Rattle.grind_term_graph.specs.declared.head.Head.TheVariants as head
 use Rattle.grind_term_graph.specs.declared.node.Node.{Node}
-use Rattle.grind_term_graph.specs.Terms.{int, sort_at}
 use Rattle.grind_proof_kernel.specs.LinearRules.{IsComparison, Compares}
 
 module _ (nodes : List Node) (n : ℕ) where

@@ -1,10 +1,7 @@
 -- Sums of premises, one premise after the other.
-use Rattle.std.proofs.Common.{◌≡◌, List, [], ◌∷◌, Option, Some, None, ℕ, ℤ, pos, ap, sym, ◌∙◌, refl, subst, Bool, true, false, true≢false, All, ◌↔◌, ◌≤ℤ◌, ◌<ℤ◌, ◌*ℤ◌, ◌⊎◌, inl, inr}
+use Rattle.std.proofs.Common.{◌≡◌, List, ◌∷◌, Option, Some, ℕ, ℤ, pos, ap, sym, ◌∙◌, subst, Bool, true, false, true≢false, ◌↔◌, ◌⊎◌, inl, inr}
 use Rattle.std.specs.Prelude.{IsTrue}
-use Rattle.std.proofs.lemmas.List.Elements.{All-nil, All-cons}
 use Rattle.grind_term_graph.specs.declared.node.Node.{Node}
-use Rattle.grind_linear_forms.specs.declared.form.Part.{Part}
-use Rattle.grind_linear_forms.specs.Forms.{part_of}
 use Rattle.grind_proof_kernel.specs.declared.claim.Claim.{Claim}
 use Rattle.grind_proof_kernel.specs.declared.claim.Claim.TheVariants.{Differ}
 use Rattle.std.specs.Option.{option_and_then}

@@ -1,6 +1,6 @@
 -- Worked cases of the rules over linear forms and polynomials: for each a line that the rule allows, and one that it refuses.
-use Rattle.std.specs.Prelude.{◌≡◌, ℕ, List, [], ◌∷◌, ◌++◌, Option, Some, None, ℤ, pos, negsuc, ◌+ℤ◌, ◌≤ℤ◌, ◌<ℤ◌, refl}
-use Rattle.std.proofs.Common.{sym, ap, subst, ◌∙◌, inl, inr}
+use Rattle.std.specs.Prelude.{◌≡◌, List, [], ◌∷◌, ◌++◌, Option, Some, None, ℤ, pos, negsuc, ◌+ℤ◌, ◌≤ℤ◌, ◌<ℤ◌, refl}
+use Rattle.std.proofs.Common.{sym, ap, subst, inl, inr}
 use Rattle.grind_term_graph.specs.declared.head.Head.TheVariants as head
 use Rattle.grind_term_graph.specs.declared.node.Node.{Node}
 use Rattle.grind_term_graph.specs.Terms.{prop, int, opening}
@@ -16,8 +16,8 @@ use Rattle.grind_polynomials.specs.Sums.{with_more, with_multiple, with_multiple
 use Rattle.grind_differences.specs.Differences.{reading, difference, poly_reading, poly_difference}
 use Rattle.grind_proof_kernel.specs.declared.claim.Claim.{Claim}
 use Rattle.grind_proof_kernel.specs.declared.claim.Claim.TheVariants.{Holds, Fails, Same, Differ, AtMost, Zero, Absurd}
-use Rattle.grind_proof_kernel.specs.LinearRules.{combined, IsRead, IsWrite, IsLine, IsCombine, IsPinch, IsStrict, IsApart, IsTooGreat}
-use Rattle.grind_proof_kernel.specs.PolyRules.{gathered, IsPolyRule, IsEqual, IsIdeal}
+use Rattle.grind_proof_kernel.specs.LinearRules.{IsRead, IsWrite, IsLine, IsCombine, IsPinch, IsStrict, IsApart, IsTooGreat}
+use Rattle.grind_proof_kernel.specs.PolyRules.{IsPolyRule, IsEqual, IsIdeal}
 use Rattle.grind_proof_kernel.specs.Rules.{IsClash}
 use Rattle.grind_proof_kernel.specs.Typing.{AreOpposite}
 

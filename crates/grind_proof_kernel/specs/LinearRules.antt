@@ -1,5 +1,5 @@
 -- What the rules over linear forms let a line claim.
-use Rattle.std.specs.Prelude.{◌≡◌, ◌≢◌, ℕ, List, [], ◌∷◌, ◌⊎◌, Option, Some, None, slice_get, ℤ, pos, negsuc, ◌≤ℤ◌, ◌<ℤ◌}
+use Rattle.std.specs.Prelude.{◌≡◌, ℕ, List, [], ◌∷◌, ◌⊎◌, Option, Some, None, slice_get, ℤ, pos, negsuc, ◌<ℤ◌}
 use Rattle.std.specs.Option.{IsSomeAnd, option_and_then}
 use Rattle.grind_term_graph.specs.declared.head.Head.TheVariants as head
 use Rattle.grind_term_graph.specs.declared.node.Node.{Node}
@@ -7,7 +7,6 @@ use Rattle.grind_linear_forms.specs.Forms.{FormData, number_form}
 use Rattle.grind_linear_forms.specs.Sums.{scaled_sum}
 use Rattle.grind_proof_kernel.specs.declared.claim.Claim.{Claim}
 use Rattle.grind_proof_kernel.specs.declared.claim.Claim.TheVariants.{Holds, Fails, Same, Differ, AtMost, Zero, Absurd}
-use Rattle.grind_polynomials.specs.declared.poly.Term.{Term}
 use Rattle.grind_differences.specs.Bounds.{plus, IsWithinCut}
 use Rattle.grind_differences.specs.Differences.{difference, IsDifferencePlus, IsDifferenceOver, AreApartByReading}
 use Rattle.grind_differences.specs.Equations.{form_of}

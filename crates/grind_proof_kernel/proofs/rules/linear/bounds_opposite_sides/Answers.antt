@@ -1,4 +1,4 @@
-use Rattle.std.proofs.Common.{ℕ, ◌≡◌, Some, pos}
+use Rattle.std.proofs.Common.{ℕ, pos}
 use Rattle.grind_differences.specs.Differences.{IsDifferencePlus}
 use Rattle.grind_proof_kernel.proofs.BoundLemmas.{compared, not_compared}
 use Rattle.grind_proof_kernel.proofs.rules.linear.bounds_opposite_sides.Goals as goal
