@@ -26,7 +26,7 @@ FILES = {
     "grind_par_check": ["Judges"],
     "grind_explain": ["Explained"],
     "grind_case_split": ["Congruences", "Writing", "Building", "Given", "Laws"],
-    "grind_value_tables": ["Respects", "Overflows", "Truths", "Laws"],
+    "grind_value_tables": ["Respects", "Truths", "Evaluations", "Overflows", "Laws"],
     "grind_tokens": ["Tokens"],
     "grind_grammar": ["Lexemes", "Terms", "Names", "Grammar", "Parentheses", "Files", "Keeps", "Laws"],
     "grind_syntax": ["Refusals"],
