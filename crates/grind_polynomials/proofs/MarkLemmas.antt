@@ -1,5 +1,5 @@
 -- The readings of the nodes that a reading needs.
-use Rattle.std.proofs.Common.{◌≡◌, inl, inr, ℕ, ◌<◌, Bool, List, [], ◌∷◌, ◌++◌, length, Some, None, slice_get, All, Contains, arith, sym, ap, ◌∙◌, subst}
+use Rattle.std.proofs.Common.{◌≡◌, inl, inr, ℕ, ◌<◌, Bool, List, [], ◌∷◌, ◌++◌, length, Some, None, slice_get, All, arith, sym, ap, ◌∙◌, subst}
 use Rattle.std.proofs.lemmas.Bool.{cases_order}
 use Rattle.grind_lemmas.proofs.Lists.{get-before, get-at, length-push}
 use Rattle.grind_term_graph.specs.declared.node.Node.{Node}
