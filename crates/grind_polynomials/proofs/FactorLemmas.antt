@@ -1,5 +1,5 @@
 -- What factors are for.
-use Rattle.std.proofs.Common.{◌≡◌, ◌≢◌, ℕ, zero, suc, ◌<◌, Bool, true, false, not, ◌&&◌, List, [], ◌∷◌, length, ℤ, pos, ◌+ℤ◌, ◌*ℤ◌, neg_ℤ, Option, Some, None, Result, Ok, Err, arith, sym, ap, ◌∙◌, refl, subst}
+use Rattle.std.proofs.Common.{◌≡◌, ◌≢◌, ℕ, suc, Bool, true, false, not, List, [], ◌∷◌, length, ℤ, pos, ◌+ℤ◌, ◌*ℤ◌, neg_ℤ, Option, Some, None, Result, Ok, arith, sym, ap, ◌∙◌, refl, subst}
 use Rattle.std.proofs.lemmas.Bool.{cond-true, cond-false}
 use Rattle.std.proofs.lemmas.Nat.Gcd.{dvd_antisymm}
 use Rattle.std.proofs.lemmas.Option.{none-some, same_Some}
@@ -16,8 +16,8 @@ use Rattle.grind_polynomials.specs.declared.factors.Factors.{Factors}
 use Rattle.grind_polynomials.specs.Sums.{and_then, signed, with_more}
 use Rattle.grind_polynomials.specs.Values.{poly_value}
 use Rattle.grind_polynomials.specs.Pairs.{lead_monomial}
-use Rattle.grind_polynomials.specs.Reduction.{is_one, reduced_of, reducer, Target, target_of, target, unit, weight, scaled, Steps, Reduces, irreducible, step, IsContent, DividesEach, terms_by, reduced_by, IsNormal}
-use Rattle.grind_polynomials.specs.Gathering.{Move, move_of, factor_moved, before, hits, factors_moved, no_factors, StepsWith, Gathers, ended, moved, spilt, has_terms, factors_by, IsFactors, products_value}
+use Rattle.grind_polynomials.specs.Reduction.{is_one, reduced_of, reducer, Target, target_of, target, unit, weight, scaled, Reduces, irreducible, step, IsContent, terms_by, IsNormal}
+use Rattle.grind_polynomials.specs.Gathering.{Move, move_of, factor_moved, before, factors_moved, no_factors, StepsWith, Gathers, ended, moved, spilt, has_terms, factors_by, IsFactors, products_value}
 use Rattle.grind_polynomials.proofs.Fits.{ok-err, same_Ok}
 use Rattle.grind_polynomials.proofs.Falling.{made_of}
 use Rattle.grind_polynomials.proofs.SumValues.{value-more, value-multiples, signed-mul}
