@@ -1,7 +1,7 @@
 -- The readings of marked nodes.
-use Rattle.std.specs.Prelude.{◌≡◌, ℕ, suc, ◌<◌, List, length, None, slice_get, Bool}
+use Rattle.std.specs.Prelude.{◌≡◌, ℕ, suc, ◌<◌, ◌≤◌, List, length, None, slice_get, Bool}
 use Rattle.grind_term_graph.specs.declared.node.Node.{Node}
-use Rattle.grind_reach.specs.Marks.{IsMarked, HasMarkedArguments}
+use Rattle.grind_reach.specs.Marks.{IsMarked, HasMarkedArguments, IsReader}
 use Rattle.grind_linear_forms.specs.Forms.{FormData}
 use Rattle.grind_linear_forms.specs.Readings.{linear}
 
@@ -12,6 +12,8 @@ pub record ServesReading (nodes : List Node) (root : ℕ) (marks : List Bool) : 
   pub needed : (n : ℕ) → IsMarked marks n → linear nodes n ≡ None → linear nodes root ≡ None
   pub closed : (n : ℕ) → HasMarkedArguments nodes marks n
 
--- of the first nodes, one for each of these forms, those that are marked have these forms as their readings
+-- of the first nodes, one for each of these forms, those that a marked node behind them is read by have these forms as
+-- their readings
 abbrev pub AreRead : List Node → List Bool → List FormData → Type 0
-AreRead nodes marks forms = (n : ℕ) → n < length forms → IsMarked marks n → linear nodes n ≡ slice_get forms n
+AreRead nodes marks forms = (k n : ℕ) → k < length forms → length forms ≤ n → IsReader nodes marks n k
+    → linear nodes k ≡ slice_get forms k

@@ -1,18 +1,19 @@
 //! Terms read as polynomials.
-ghost use Rattle.std.specs.Prelude.{◌≡◌, ◌<◌, All, length, slice_get, Some, None, IfOk, IsErrOf};
+ghost use Rattle.std.specs.Prelude.{◌≡◌, ◌<◌, ◌≤◌, ◌⊎◌, ℕ, suc, [], All, length, slice_get, Some, None, IfOk, OnOk, IsErrOf};
 ghost use Rattle.grind_term_graph.specs.Terms.{int, sort_at};
-ghost use Rattle.grind_reach.specs.Marks.{IsMarked, HasMarkedArguments};
+ghost use Rattle.grind_reach.specs.Marks.{IsMarked, HasMarkedArguments, IsLastReader, reader_at};
 ghost use Rattle.grind_polynomials.specs.Marks.{ServesReading, AreRead};
 ghost use Rattle.grind_polynomials.specs.Readings.{polynomial, of_one, of_two, sum_poly, negated_poly, product_poly, reading_of};
 
 use crate::poly::{Poly, PolyRefusal};
 use crate::sum::{add_product, negation, sum};
 use grind_outside::{List, Memory};
-use grind_reach::{arguments_stand_before, is_marked, needed_nodes};
+use grind_reach::{arguments_stand_before, is_marked, last_reader, last_readers, needed_nodes};
 use grind_term_graph::{Head, Node, NodeId, TermTable};
 use std::alloc::Global;
 
-/// The reading of a term of whole numbers as a polynomial. Each node that it needs is read once.
+/// The reading of a term of whole numbers as a polynomial. Each node that it needs is read once, and its reading is kept
+/// until the last node that needs it is read.
 ///
 /// # Errors
 ///
@@ -25,11 +26,18 @@ pub fn poly_of(alloc: Global, table: &TermTable, id: NodeId) -> Result<Poly, Pol
     ensures degree { IsErrOf result PolyRefusal.Degree → ⊥ }
 {
     let needed = marks_for(alloc, table, id)?;
+    let readers = last_readers(alloc, table, needed.as_slice())?;
     let mut polys = List::new(alloc);
     for number in 0..id.number() {
         let node = NodeId::new(number);
-        let poly = read_needed(alloc, table, needed.as_slice(), node, polys.as_slice())?;
-        polys.push(poly)?;
+        read_next(
+            alloc,
+            table,
+            needed.as_slice(),
+            readers.as_slice(),
+            node,
+            &mut polys,
+        )?;
     }
     let poly = read_needed(alloc, table, needed.as_slice(), id, polys.as_slice())?;
     Ok(poly)
@@ -45,6 +53,63 @@ fn marks_for(alloc: Global, table: &TermTable, root: NodeId) -> Result<List<bool
     Ok(marks)
 }
 
+// Reads the next node, where it is needed, and lets go the readings that no later node needs.
+fn read_next(
+    alloc: Global,
+    table: &TermTable,
+    needed: &[bool],
+    readers: &[u32],
+    n: NodeId,
+    polys: &mut List<Poly>,
+) -> Result<(), PolyRefusal>
+    requires within { n < length table.now.nodes }
+    requires marks { n < length needed.now }
+    requires readers { length readers.now ≡ length needed.now }
+    requires closed { (k : ℕ) → HasMarkedArguments table.now.nodes needed.now k }
+    requires last { (a : ℕ) → IsLastReader table.now.nodes needed.now a (reader_at readers.now a) }
+    requires count { length polys.old ≡ n }
+    requires known { AreRead table.now.nodes needed.now polys.old }
+    ensures count { OnOk result (length polys.new ≡ suc n) }
+    ensures known { OnOk result (AreRead table.now.nodes needed.now polys.new) }
+    ensures overflow { IsErrOf result PolyRefusal.Overflow → IsMarked needed.now n × (polynomial table.now.nodes n ≡ None) }
+    ensures degree { IsErrOf result PolyRefusal.Degree → ⊥ }
+{
+    let poly = read_needed(alloc, table, needed, n, polys.as_slice())?;
+    polys.push(poly)?;
+    let_go(alloc, readers, n, table.node(n).args.as_slice(), polys);
+    Ok(())
+}
+
+// Lets go the readings of those of these nodes whose last reader is n.
+fn let_go(alloc: Global, readers: &[u32], n: NodeId, args: &[NodeId], polys: &mut List<Poly>)
+    requires within { All (λ arg. arg < length polys.old) args.now }
+    requires readers { length polys.old ≤ length readers.now }
+    ensures size { length polys.new ≡ length polys.old }
+    ensures kept { (k : ℕ) → (slice_get polys.new k ≡ slice_get polys.old k) ⊎ ((reader_at readers.now k ≡ n) × (slice_get polys.new k ≡ Some [])) }
+    ensures gone { All (λ arg. reader_at readers.now arg ≡ n → slice_get polys.new arg ≡ Some []) args.now }
+{
+    let mut rest = args;
+    while let Some((arg, tail)) = rest.split_first() {
+        let_one_go(alloc, readers, n, *arg, polys);
+        rest = tail;
+    }
+}
+
+// Puts the polynomial without terms in place of the reading of a node whose last reader is n.
+fn let_one_go(alloc: Global, readers: &[u32], n: NodeId, arg: NodeId, polys: &mut List<Poly>)
+    requires within { arg < length polys.old }
+    requires readers { length polys.old ≤ length readers.now }
+    ensures size { length polys.new ≡ length polys.old }
+    ensures kept { (k : ℕ) → (slice_get polys.new k ≡ slice_get polys.old k) ⊎ ((reader_at readers.now k ≡ n) × (slice_get polys.new k ≡ Some [])) }
+    ensures gone { reader_at readers.now arg ≡ n → slice_get polys.new arg ≡ Some [] }
+{
+    let place = arg.number() as usize;
+    if last_reader(readers, place) != n.number() {
+        return;
+    }
+    polys.set(place, Poly::zero(alloc));
+}
+
 // The reading of a node, where it is needed, from those of the nodes before it. A node that is not needed is not read.
 fn read_needed(
     alloc: Global,
@@ -55,7 +120,6 @@ fn read_needed(
 ) -> Result<Poly, PolyRefusal>
     requires within { n < length table.now.nodes }
     requires marks { n < length needed.now }
-    requires closed { HasMarkedArguments table.now.nodes needed.now n }
     requires count { length polys.now ≡ n }
     requires known { AreRead table.now.nodes needed.now polys.now }
     ensures ok { IfOk result (λ poly. IsMarked needed.now n → polynomial table.now.nodes n ≡ Some poly) }

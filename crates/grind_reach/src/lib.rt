@@ -3,5 +3,7 @@
 #![tactic(auto)]
 
 pub mod marking;
+pub mod readers;
 
 pub use marking::{arguments_stand_before, is_marked, needed_nodes};
+pub use readers::{last_reader, last_readers};

@@ -73,7 +73,7 @@ fn mark_arguments(marks: &mut List<bool>, node: &Node)
 }
 
 // Whether a term of this head is read by its arguments.
-fn is_read_by_arguments(head: Head) -> bool
+pub(crate) fn is_read_by_arguments(head: Head) -> bool
     ensures { result ≡ reads_arguments head }
 {
     match head {
