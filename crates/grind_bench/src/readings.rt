@@ -1,5 +1,5 @@
 //! Readings of the sides of a goal's conclusion, and a reduction by its hypotheses.
-ghost use Rattle.std.specs.Prelude.{◌≡◌, ◌≢◌, [], All, IfOk, IfSome, Some};
+ghost use Rattle.std.specs.Prelude.{◌≡◌, ◌≢◌, [], IsTrue, All, IfOk, IfSome, Some};
 ghost use Rattle.grind_term_graph.specs.Terms.{int, sort_at};
 
 use grind_linear_forms::{FormRefusal, linear_of};
@@ -133,7 +133,7 @@ fn polynomial(alloc: Global, terms: &TermTable, node: NodeId) -> Result<Option<P
 
 /// Whether the node is a whole number.
 fn is_number(terms: &TermTable, node: NodeId) -> bool
-    ensures { result ≡ true → sort_at terms.now.nodes node ≡ Some int }
+    ensures { IsTrue result → sort_at terms.now.nodes node ≡ Some int }
 {
     node.number() < terms.len() && terms.sort(node) == SortId::INT
 }

@@ -220,7 +220,10 @@ fn combine_in(alloc: Global, words: &[&str]) -> Result<Option<Step>, Memory> {
     };
     let mut factors = List::new(alloc);
     let mut premises = List::new(alloc);
-    while let Some((factor, behind)) = rest.split_first() {
+    for _ in 0..words.len() {
+        let Some((factor, behind)) = rest.split_first() else {
+            break;
+        };
         let Some((premise, tail)) = behind.split_first() else {
             return Ok(None);
         };
@@ -245,7 +248,10 @@ fn ideal_in(alloc: Global, words: &[&str]) -> Result<Option<Step>, Memory> {
     };
     let mut factors = List::new(alloc);
     let mut premises = List::new(alloc);
-    while let Some((premise, behind)) = rest.split_first() {
+    for _ in 0..words.len() {
+        let Some((premise, behind)) = rest.split_first() else {
+            break;
+        };
         let Some(premise) = number_of(premise) else {
             return Ok(None);
         };

@@ -30,7 +30,10 @@ pub fn form_in(alloc: Global, words: &[&str]) -> Result<Option<Form>, Memory> {
         return Ok(None);
     };
     let mut form = Form::number(alloc, constant);
-    while let Some((coefficient, behind)) = rest.split_first() {
+    for _ in 0..words.len() {
+        let Some((coefficient, behind)) = rest.split_first() else {
+            break;
+        };
         let Some((node, tail)) = behind.split_first() else {
             return Ok(None);
         };
