@@ -3,9 +3,10 @@ ghost use Rattle.std.specs.Prelude.{◌≤◌, IsTrue, [], ◌∷◌, length};
 ghost use Rattle.grind_schemes.specs.Instances.{IsSubstitution};
 
 use grind_cli::reader::theory_of;
+use grind_outside::Memory;
 use grind_schemes::{Theorem, instantiate, missing};
 use grind_term_graph::{NodeId, TermRefusal, TermTable};
-use std::process::Abort;
+use std::alloc::Global;
 use std::test::Fail;
 
 /// Terms: 2 `a`, 3 `f(a)`, 4 `b`, 5 `f(b)`, 6 their equation, 7 `a = b`.
@@ -22,27 +23,35 @@ fn suits(table: &TermTable, theorem: &Theorem, node: NodeId) -> bool
     node.number() < table.len() && table.sort(node) == *sort
 }
 
-/// The table wants two more nodes for the instance at `a`: it has room for them, or it stays as it is.
-fn instance_at_a(
-    rt: &(impl Abort + AllocGlobal),
+/// How many nodes the instance at the node wants, where the node suits the theorem.
+fn wanted(
+    alloc: Global,
+    theorem: &Theorem,
+    table: &TermTable,
+    node: NodeId,
+) -> Result<Option<u32>, Memory> {
+    if !suits(table, theorem, node) {
+        return Ok(None);
+    }
+    let count = missing(alloc, theorem, &[node], table)?;
+    Ok(Some(count))
+}
+
+/// The node of the instance at the node, where the node suits the theorem and the table has room.
+fn made(
+    alloc: Global,
     theorem: &Theorem,
     table: &mut TermTable,
-    room: bool,
-) -> Result<(), Fail> {
-    let alloc = rt.alloc();
-    let a = NodeId::new(2);
-    assert!(rt; suits(table, theorem, a));
-    assert!(rt; missing(alloc, theorem, &[a], table)? == 2);
-    match instantiate(alloc, theorem, &[a], table) {
-        Ok(node) => {
-            assert!(rt; room && node == NodeId::new(9) && table.len() == 10);
-        }
-        Err(TermRefusal::Full) => {
-            assert!(rt; !room && table.len() == 8);
-        }
-        Err(TermRefusal::Memory) => assert!(rt; false),
+    node: NodeId,
+) -> Result<Option<NodeId>, Memory> {
+    if !suits(table, theorem, node) {
+        return Ok(None);
     }
-    Ok(())
+    match instantiate(alloc, theorem, &[node], table) {
+        Ok(node) => Ok(Some(node)),
+        Err(TermRefusal::Full) => Ok(None),
+        Err(TermRefusal::Memory) => Err(Memory),
+    }
 }
 
 #[test]
@@ -53,13 +62,21 @@ fn an_instance_wants_room(rt: HostRuntime) -> Result<(), Fail> {
     let theory = theory_of(alloc, text)?;
     let theorems = theory.lemmas.theorems.as_slice();
     let goals = theory.goals.as_slice();
-    assert!(rt; theorems.len() == 1 && goals.len() == 1);
+    assert!(rt; theorems.len() == 1);
+    assert!(rt; goals.len() == 1);
     let terms = goals[0].terms();
-    assert!(rt; terms.len() == 8);
-    let mut full = terms.copy(alloc, 8)?;
-    instance_at_a(&rt, &theorems[0], &mut full, false)?;
-    let mut narrow = terms.copy(alloc, 9)?;
-    instance_at_a(&rt, &theorems[0], &mut narrow, false)?;
-    let mut wide = terms.copy(alloc, 10)?;
-    instance_at_a(&rt, &theorems[0], &mut wide, true)
+    let a = NodeId::new(2);
+    assert!(rt; wanted(alloc, &theorems[0], terms, a)? == Some(2));
+    for (limit, node, count) in [
+        (8, None, 8),
+        (9, None, 8),
+        (10, Some(NodeId::new(9)), 10),
+    ] {
+        assert!(rt; terms.len() <= limit);
+        let mut table = terms.copy(alloc, limit)?;
+        let instance = made(alloc, &theorems[0], &mut table, a)?;
+        assert!(rt; instance == node);
+        assert!(rt; table.len() == count);
+    }
+    Ok(())
 }

@@ -16,7 +16,7 @@ use grind_par_check::check_parallel;
 use grind_proof_kernel::{Proof, Verdict, check};
 use grind_schemes::{Goal, Lemmas};
 use grind_theory::Theory;
-use readings::{basis_of, left_side, parts_of, rest_of, terms_of};
+use readings::{are_nonzero, basis_of, left_side, parts_of, rest_of, terms_of};
 use std::alloc::Global;
 use std::env;
 use std::process::ExitCode;
@@ -223,12 +223,16 @@ fn read<R: Clock + Files + AllocGlobal>(
 /// Reduces the polynomial of the conclusion's left side.
 fn reduced(rt: &impl Clock, alloc: Global, goal: &Goal) -> Result<Outcome, Memory> {
     let basis = basis_of(alloc, goal)?;
-    let Some(poly) = left_side(alloc, goal)? else {
-        return Ok(Outcome {
-            count: None,
-            micros: 0,
-        });
+    let nothing = Outcome {
+        count: None,
+        micros: 0,
     };
+    let Some(poly) = left_side(alloc, goal)? else {
+        return Ok(nothing);
+    };
+    if !are_nonzero(&basis) {
+        return Ok(nothing);
+    }
     let start = Instant::now(rt);
     let count = rest_of(alloc, &poly, &basis)?;
     Ok(Outcome {

@@ -1,5 +1,5 @@
 //! Readings of the sides of a goal's conclusion, and a reduction by its hypotheses.
-ghost use Rattle.std.specs.Prelude.{◌≡◌, ◌≢◌, [], IsTrue, All, IfOk, IfSome, Some};
+ghost use Rattle.std.specs.Prelude.{◌≡◌, ◌≢◌, ◌↔◌, [], IsTrue, All, Some};
 ghost use Rattle.grind_term_graph.specs.Terms.{int, sort_at};
 
 use grind_linear_forms::{FormRefusal, linear_of};
@@ -81,9 +81,7 @@ pub fn left_side(alloc: Global, goal: &Goal) -> Result<Option<Poly>, Memory> {
 ///
 /// # Errors
 /// `Memory` where memory was wanted and there was none.
-pub fn basis_of(alloc: Global, goal: &Goal) -> Result<List<Poly>, Memory>
-    ensures { IfOk result (λ basis. All (λ b. b ≢ []) basis) }
-{
+pub fn basis_of(alloc: Global, goal: &Goal) -> Result<List<Poly>, Memory> {
     let terms = goal.terms();
     let mut basis = List::new(alloc);
     for hyp in goal.hyps() {
@@ -94,10 +92,22 @@ pub fn basis_of(alloc: Global, goal: &Goal) -> Result<List<Poly>, Memory>
     Ok(basis)
 }
 
-/// The difference of the sides of an equation, where it is defined and not 0.
-fn element(alloc: Global, terms: &TermTable, node: NodeId) -> Result<Option<Poly>, Memory>
-    ensures { IfOk result (λ found. IfSome found (λ poly. poly ≢ [])) }
+/// Whether no polynomial is 0.
+pub fn are_nonzero(basis: &List<Poly>) -> bool
+    ensures { IsTrue result ↔ All (λ b. b ≢ []) basis.now }
 {
+    basis.as_slice().iter().all(|poly| is_nonzero(poly))
+}
+
+/// Whether the polynomial has a term.
+fn is_nonzero(poly: &Poly) -> bool
+    ensures { IsTrue result ↔ (poly.now ≢ []) }
+{
+    poly.terms().len() > 0
+}
+
+/// The difference of the sides of an equation, where it is defined and not 0.
+fn element(alloc: Global, terms: &TermTable, node: NodeId) -> Result<Option<Poly>, Memory> {
     let Some(sides) = sides_of(terms, node) else {
         return Ok(None);
     };
