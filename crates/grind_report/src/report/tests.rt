@@ -152,7 +152,10 @@ fn prints_what_follows_from_bounds(rt: HostRuntime) -> Result<(), Fail> {
     assert_eq!(rt; write.as_slice(), b"3 0 write 1 : fails 6\n".as_slice());
     let less = Claim::AtMost(Form::number(alloc, -6));
     let strict = line_text(alloc, 2, Rule::Strict, &[4, 1], less)?;
-    assert_eq!(rt; strict.as_slice(), b"2 0 strict 4 1 : atmost -6\n".as_slice());
+    assert_eq!(rt;
+        strict.as_slice(),
+        b"2 0 strict 4 1 : atmost -6\n".as_slice()
+    );
     let pinch = line_text(alloc, 4, Rule::Pinch, &[1, 3], same(3, 5))?;
     assert_eq!(rt; pinch.as_slice(), b"4 0 pinch 1 3 : same 3 5\n".as_slice());
     Ok(())
