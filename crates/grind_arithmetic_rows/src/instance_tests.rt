@@ -10,7 +10,8 @@ use std::alloc::Global;
 use std::test::Fail;
 
 /// Terms: 2 `a`, 3 `f(a)`, 4 `b`, 5 `f(b)`, 6 their equation, 7 `a = b`.
-const THEORY: &str = "sort S. fun f(S): S. fun g(S): S. theorem inv (x: S) [pattern f(x)]: g(f(x)) = x.
+const THEORY: &str =
+    "sort S. fun f(S): S. fun g(S): S. theorem inv (x: S) [pattern f(x)]: g(f(x)) = x.
     goal t (a b: S): f(a) = f(b) |- a = b.";
 
 /// Whether the theorem has one variable, of the sort of the node.
@@ -67,11 +68,7 @@ fn an_instance_wants_room(rt: HostRuntime) -> Result<(), Fail> {
     let terms = goals[0].terms();
     let a = NodeId::new(2);
     assert!(rt; wanted(alloc, &theorems[0], terms, a)? == Some(2));
-    for (limit, node, count) in [
-        (8, None, 8),
-        (9, None, 8),
-        (10, Some(NodeId::new(9)), 10),
-    ] {
+    for (limit, node, count) in [(8, None, 8), (9, None, 8), (10, Some(NodeId::new(9)), 10)] {
         assert!(rt; terms.len() <= limit);
         let mut table = terms.copy(alloc, limit)?;
         let instance = made(alloc, &theorems[0], &mut table, a)?;

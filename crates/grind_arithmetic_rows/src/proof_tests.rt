@@ -110,11 +110,7 @@ fn push_branch(
 }
 
 /// What the checker says of the proof whose branches assume this.
-fn verdict_under(
-    rt: &(impl Abort + AllocGlobal),
-    one: &str,
-    other: &str,
-) -> Result<Verdict, Fail> {
+fn verdict_under(rt: &(impl Abort + AllocGlobal), one: &str, other: &str) -> Result<Verdict, Fail> {
     let alloc = rt.alloc();
     let text = ODD.as_bytes();
     assert!(rt; text.len() <= 4_194_304);

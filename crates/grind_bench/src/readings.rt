@@ -50,11 +50,7 @@ pub fn terms_of(alloc: Global, goal: &Goal) -> Result<Option<usize>, Memory> {
 ///
 /// # Errors
 /// `Memory` where memory was wanted and there was none.
-pub fn rest_of(
-    alloc: Global,
-    poly: &Poly,
-    basis: &List<Poly>,
-) -> Result<Option<usize>, Memory>
+pub fn rest_of(alloc: Global, poly: &Poly, basis: &List<Poly>) -> Result<Option<usize>, Memory>
     requires { All (λ b. b ≢ []) basis.now }
 {
     match normal(alloc, poly, basis) {

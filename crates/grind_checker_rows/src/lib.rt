@@ -1,10 +1,6 @@
 //! The checker on whole proofs, compared with what it must answer. Lines are kept as the text of a report.
 #![tactic(auto)]
 
-pub mod made_proof;
-pub mod spelled;
-pub mod terms;
-
 #[cfg(test)]
 mod branch_tests;
 #[cfg(test)]
@@ -13,9 +9,12 @@ mod checker_tests;
 mod explain_tests;
 #[cfg(test)]
 mod made_goal;
+pub mod made_proof;
 #[cfg(test)]
 mod parallel_tests;
 #[cfg(test)]
 mod rule_tests;
 #[cfg(test)]
 mod signature_tests;
+pub mod spelled;
+pub mod terms;
