@@ -1,45 +1,64 @@
-//! Makes a proof of a given size and checks it, so that a script can time the checker. The words are a family of
-//! proofs, a size, and how many jobs may check it; with 0 jobs the checker of one thread does. The microseconds that the
-//! check took are written to standard error.
+//! Does one piece of work of a given size and times it, for a script. The words are `chain SIZE JOBS`, a proof of so many
+//! lines checked by so many jobs (with 0 jobs the checker of one thread does it), or `linear FILE`, `poly FILE` or
+//! `normal FILE`: the readings of the left side of the conclusion of the file's first goal, and the normal form of the
+//! last by the differences of the sides of the hypotheses. The microseconds that the work took are written to standard error.
 #![tactic(auto)]
 
-ghost use Rattle.std.specs.Prelude.{IfOk, ◌≤◌};
 ghost use Rattle.grind_proof_kernel.specs.Typing.{HasTerms};
 
+mod chains;
+mod readings;
+
+use chains::chain;
 use grind_cli::reader::theory_of;
-use grind_outside::{List, Memory};
+use grind_outside::{FileShelf, List, Memory, Shelf};
 use grind_par_check::check_parallel;
-use grind_proof_kernel::{Claim, Line, Proof, Rule, Verdict, check};
+use grind_proof_kernel::{Proof, Verdict, check};
 use grind_schemes::{Goal, Lemmas};
-use grind_term_graph::NodeId;
+use grind_theory::Theory;
+use readings::{are_nonzero, basis_of, left_side, parts_of, rest_of, terms_of};
 use std::alloc::Global;
 use std::env;
 use std::process::ExitCode;
-use std::rt::{Clock, Env};
+use std::rt::{Clock, Env, Files};
 use std::thread::Threads;
 use std::time::Instant;
 
-/// The theory whose goal the proofs are of: term 3 is `f(a)`, and term 4 the conclusion.
+/// The theory whose goal the chains are of: term 3 is `f(a)`, and term 4 the conclusion.
 const THEORY: &[u8] = b"sort S. fun f(S): S. goal g (a: S): |- f(a) = f(a).";
 
 /// No proof has more lines.
 const MOST: u32 = 4_000_000;
 
-/// What the words ask for.
+/// A theory file has at most so many bytes.
+const LONGEST: u64 = 4_194_304;
+
+/// How a term is read.
 #[derive(Clone, Copy)]
-struct Work {
-    /// How many lines the chain has.
-    size: u32,
-    /// How many jobs check it.
-    jobs: u32,
+enum Reading {
+    /// As a linear form.
+    Linear,
+    /// As a polynomial.
+    Polynomial,
+    /// As the normal form of one.
+    Normal,
 }
 
-/// What came of it.
+/// What the words ask for.
+#[derive(Drop)]
+enum Work {
+    /// A chain of so many lines is checked by so many jobs.
+    Chain { size: u32, jobs: u32 },
+    /// A term of the file is read.
+    Read { reading: Reading, name: String },
+}
+
+/// What came of it: how much was made, where something was, and how many microseconds it took.
 #[derive(Clone, Copy)]
 struct Outcome {
-    /// What the checker says.
-    verdict: Verdict,
-    /// How many microseconds it took, where the clock could be read.
+    /// 1 for a typed proof; the parts of a form, or the terms of a polynomial.
+    count: Option<usize>,
+    /// The time, or 0 where the clock could not be read.
     micros: u128,
 }
 
@@ -47,15 +66,15 @@ fn main(rt: HostRuntime) -> ExitCode {
     let Ok(Some(work)) = work_of(&rt) else {
         return ExitCode::from(3);
     };
-    let outcome = match done(&rt, work) {
+    let outcome = match done(&rt, &work) {
         Ok(outcome) => outcome,
         Err(Memory) => return ExitCode::from(6),
     };
-    let word = match outcome.verdict {
-        Verdict::Typed => "typed",
-        _ => "not typed",
+    let written = match outcome.count {
+        Some(count) => println!(rt; "made {count}"),
+        None => println!(rt; "made nothing"),
     };
-    if println!(rt; "chain {} {word}", work.size).is_err() {
+    if written.is_err() {
         return ExitCode::from(5);
     }
     match eprintln!(rt; "{}", outcome.micros) {
@@ -64,26 +83,63 @@ fn main(rt: HostRuntime) -> ExitCode {
     }
 }
 
-/// The work that the words name, where they are `chain SIZE JOBS`.
+/// The work that the words name.
 fn work_of(rt: &(impl Env + AllocGlobal)) -> std::io::Result<Option<Work>> {
     let mut words = Vec::new(rt.alloc());
     for word in env::args(rt)?.skip(1) {
         words.push(word)?;
     }
-    let [family, size, jobs] = words.as_slice() else {
-        return Ok(None);
-    };
-    if family.as_str() != "chain" {
-        return Ok(None);
-    }
-    match (size.as_str().parse::<u32>(), jobs.as_str().parse::<u32>()) {
-        (Ok(size), Ok(jobs)) => Ok(Some(Work { size, jobs })),
+    match words.as_slice() {
+        [family, size, jobs] => Ok(chain_of(family.as_str(), size.as_str(), jobs.as_str())),
+        [family, name] => match reading_of(family.as_str()) {
+            Some(reading) => Ok(Some(Work::Read {
+                reading,
+                name: name.clone()?,
+            })),
+            None => Ok(None),
+        },
         _ => Ok(None),
     }
 }
 
-/// Makes the chain, and checks it.
-fn done<R: Threads + Sync + Clock + AllocGlobal>(rt: &R, work: Work) -> Result<Outcome, Memory> {
+/// The chain that the words name.
+fn chain_of(family: &str, size: &str, jobs: &str) -> Option<Work> {
+    if family != "chain" {
+        return None;
+    }
+    match (size.parse::<u32>(), jobs.parse::<u32>()) {
+        (Ok(size), Ok(jobs)) => Some(Work::Chain { size, jobs }),
+        _ => None,
+    }
+}
+
+/// The reading of that name.
+fn reading_of(word: &str) -> Option<Reading> {
+    match word {
+        "linear" => Some(Reading::Linear),
+        "poly" => Some(Reading::Polynomial),
+        "normal" => Some(Reading::Normal),
+        _ => None,
+    }
+}
+
+/// Does the work.
+fn done<R: Threads + Sync + Clock + Files + AllocGlobal>(
+    rt: &R,
+    work: &Work,
+) -> Result<Outcome, Memory> {
+    match work {
+        Work::Chain { size, jobs } => checked(rt, *size, *jobs),
+        Work::Read { reading, name } => read(rt, *reading, name.as_str()),
+    }
+}
+
+/// Makes a chain of so many lines, and checks it.
+fn checked<R: Threads + Sync + Clock + AllocGlobal>(
+    rt: &R,
+    size: u32,
+    jobs: u32,
+) -> Result<Outcome, Memory> {
     let alloc = rt.alloc();
     let Ok(theory) = theory_of(alloc, THEORY) else {
         return Err(Memory);
@@ -91,17 +147,26 @@ fn done<R: Threads + Sync + Clock + AllocGlobal>(rt: &R, work: Work) -> Result<O
     let Some(goal) = theory.goals.as_slice().first() else {
         return Err(Memory);
     };
-    let proof = chain(alloc, goal, work.size.min(MOST))?;
+    let proof = chain(alloc, goal, size.min(MOST))?;
     let start = Instant::now(rt);
-    let verdict = judged(rt, alloc, &theory.lemmas, goal, &proof, work.jobs)?;
-    let micros = match start {
+    let verdict = judged(rt, alloc, &theory.lemmas, goal, &proof, jobs)?;
+    let micros = since(rt, start);
+    let count = match verdict {
+        Verdict::Typed => Some(1),
+        _ => None,
+    };
+    Ok(Outcome { count, micros })
+}
+
+/// The microseconds since then.
+fn since(rt: &impl Clock, start: std::io::Result<Instant>) -> u128 {
+    match start {
         Ok(start) => match start.elapsed(rt) {
             Ok(spent) => spent.as_micros(),
             Err(_) => 0,
         },
         Err(_) => 0,
-    };
-    Ok(Outcome { verdict, micros })
+    }
 }
 
 /// What the checker says of the proof, with so many jobs.
@@ -121,68 +186,69 @@ fn judged<R: Threads + Sync>(
     check_parallel(rt, alloc, lemmas, goal, proof, jobs)
 }
 
-/// A proof of the goal with so many lines `trans` one behind the other.
-fn chain(alloc: Global, goal: &Goal, size: u32) -> Result<Proof, Memory>
-    requires { size ≤ 4000000 }
-    ensures { IfOk result (HasTerms goal.now) }
-{
-    let _name = goal.name();
-    let lines = lines_of(alloc, goal.show(), NodeId::new(3), size)?;
-    let branches = List::new(alloc);
-    let terms = goal.terms().copy(alloc, u32::MAX)?;
-    Ok(Proof {
-        terms,
-        branches,
-        lines,
-    })
-}
-
-/// The lines of the chain.
-fn lines_of(alloc: Global, show: NodeId, side: NodeId, size: u32) -> Result<List<Line>, Memory>
-    requires { size ≤ 4000000 }
-{
-    let mut lines = List::new(alloc);
-    push(alloc, &mut lines, Rule::Negated, &[], Claim::Fails(show))?;
-    push(alloc, &mut lines, Rule::Refl, &[], Claim::Same(side, side))?;
-    for last in 1..size + 1 {
-        push(
-            alloc,
-            &mut lines,
-            Rule::Trans,
-            &[last, 1],
-            Claim::Same(side, side),
-        )?;
+/// Reads a term of the file's first goal.
+fn read<R: Clock + Files + AllocGlobal>(
+    rt: &R,
+    reading: Reading,
+    name: &str,
+) -> Result<Outcome, Memory> {
+    let alloc = rt.alloc();
+    let Some(theory) = theory_in(rt, alloc, name) else {
+        return Err(Memory);
+    };
+    let Some(goal) = theory.goals.as_slice().first() else {
+        return Err(Memory);
+    };
+    match reading {
+        Reading::Linear => {
+            let start = Instant::now(rt);
+            let count = parts_of(alloc, goal)?;
+            Ok(Outcome {
+                count,
+                micros: since(rt, start),
+            })
+        }
+        Reading::Polynomial => {
+            let start = Instant::now(rt);
+            let count = terms_of(alloc, goal)?;
+            Ok(Outcome {
+                count,
+                micros: since(rt, start),
+            })
+        }
+        Reading::Normal => reduced(rt, alloc, goal),
     }
-    push(
-        alloc,
-        &mut lines,
-        Rule::Back,
-        &[size + 1],
-        Claim::Holds(show),
-    )?;
-    push(
-        alloc,
-        &mut lines,
-        Rule::Clash,
-        &[size + 2, 0],
-        Claim::Absurd,
-    )?;
-    Ok(lines)
 }
 
-fn push(
-    alloc: Global,
-    lines: &mut List<Line>,
-    rule: Rule,
-    from: &[u32],
-    claim: Claim,
-) -> Result<(), Memory> {
-    let mut premises = List::new(alloc);
-    premises.extend(from)?;
-    lines.push(Line {
-        branch: 0,
-        rule,
-        premises,
-        claim,
+/// Reduces the polynomial of the conclusion's left side.
+fn reduced(rt: &impl Clock, alloc: Global, goal: &Goal) -> Result<Outcome, Memory> {
+    let basis = basis_of(alloc, goal)?;
+    let nothing = Outcome {
+        count: None,
+        micros: 0,
+    };
+    let Some(poly) = left_side(alloc, goal)? else {
+        return Ok(nothing);
+    };
+    if !are_nonzero(&basis) {
+        return Ok(nothing);
+    }
+    let start = Instant::now(rt);
+    let count = rest_of(alloc, &poly, &basis)?;
+    Ok(Outcome {
+        count,
+        micros: since(rt, start),
     })
+}
+
+/// The theory that the file is.
+fn theory_in(rt: &impl Files, alloc: Global, name: &str) -> Option<Theory> {
+    let mut shelf = FileShelf::new(rt);
+    let Ok(bytes) = shelf.read(alloc, name, LONGEST) else {
+        return None;
+    };
+    match theory_of(alloc, bytes.as_slice()) {
+        Ok(theory) => Some(theory),
+        Err(_) => None,
+    }
 }

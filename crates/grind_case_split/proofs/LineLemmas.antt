@@ -18,10 +18,8 @@ use Rattle.grind_proof_kernel.specs.declared.proof.Rule.{Rule}
 use Rattle.grind_proof_kernel.specs.Claims.{IsFormed, claim_at, claims_at}
 use Rattle.grind_proof_kernel.specs.Rules.{Says}
 use Rattle.grind_proof_kernel.specs.Typing.{HasTerms, Reaches, Serves, IsTypedAs, TypedLine, IsClosed, IsGoodBranch, last_in, appended}
-use Rattle.grind_proof_kernel.specs.Laws.{Extends}
-use Rattle.grind_proof_kernel.proofs.Growth.{field_is_still}
-use Rattle.grind_proof_kernel.proofs.BranchGrowth.{some_and_then}
-use Rattle.grind_proof_kernel.proofs.LawLemmas.{typed_lines_stay_lem, typed_next_line_lem}
+use Rattle.grind_proof_kernel.specs.Laws.{Extends, TypedLinesStay, TypedNextLine}
+use Rattle.grind_proof_kernel.proofs.Growth.{some_and_then, field_is_still}
 use Rattle.grind_case_split.specs.Congruences.{IsProofOf}
 use Rattle.grind_case_split.specs.Writing.{IsRooted, ClaimsStay, IsWritten, root_line}
 
@@ -64,7 +62,7 @@ serves_all branches lines p root within = (
 -- a line that the rule lets claim this is typed behind the others
 put_typed : (lemmas : Lemmas) (goal : GoalData) (proof : Proof) (rule : Rule) (premises : List ℕ) (claim : Claim) →
     IsRooted lemmas goal proof → IsFormed goal.terms.nodes claim → All (λ p. p < length proof.lines) premises →
-    Says goal goal.terms.nodes None rule (claims_at proof.lines premises) claim →
+    Says lemmas goal goal.terms.nodes None rule (claims_at proof.lines premises) claim →
     IsTypedAs lemmas goal proof (length proof.lines) (root_line rule premises claim)
 put_typed lemmas goal proof rule premises claim rooted formed before says =
     let nodes : goal.terms.nodes ≡ proof.terms.nodes = sym (rooted_terms lemmas goal proof rooted) in
@@ -73,20 +71,20 @@ put_typed lemmas goal proof rule premises claim rooted formed before says =
       branch = omega arith;
       premises = All-weaker (λ p. p < length proof.lines) (Serves proof.branches proof.lines (length proof.lines) 0)
           (λ p within. serves_all proof.branches proof.lines p rooted.root within) premises before;
-      rule = subst (λ (all : List Node). Says goal all None rule (claims_at proof.lines premises) claim) nodes says;
+      rule = subst (λ (all : List Node). Says lemmas goal all None rule (claims_at proof.lines premises) claim) nodes says;
     }
 
-pub put_line_typed : (lemmas : Lemmas) (goal : GoalData) (proof : Proof) (rule : Rule) (premises : List ℕ) (claim : Claim) →
+pub put_line_typed : TypedNextLine → (lemmas : Lemmas) (goal : GoalData) (proof : Proof) (rule : Rule) (premises : List ℕ) (claim : Claim) →
     IsRooted lemmas goal proof → IsFormed goal.terms.nodes claim → All (λ p. p < length proof.lines) premises →
-    Says goal goal.terms.nodes None rule (claims_at proof.lines premises) claim →
+    Says lemmas goal goal.terms.nodes None rule (claims_at proof.lines premises) claim →
     TypedLine lemmas goal (appended proof (root_line rule premises claim)) (length proof.lines)
-put_line_typed lemmas goal proof rule premises claim rooted formed before says =
-    typed_next_line_lem lemmas goal proof (root_line rule premises claim) (put_typed lemmas goal proof rule premises claim rooted formed before says)
+put_line_typed next lemmas goal proof rule premises claim rooted formed before says =
+    next lemmas goal proof (root_line rule premises claim) (put_typed lemmas goal proof rule premises claim rooted formed before says)
 
 -- the proof with that line behind it
-put_rooted : (lemmas : Lemmas) (goal : GoalData) (proof : Proof) (line : Line) → line.branch ≡ 0 →
+put_rooted : TypedLinesStay → (lemmas : Lemmas) (goal : GoalData) (proof : Proof) (line : Line) → line.branch ≡ 0 →
     IsRooted lemmas goal proof → TypedLine lemmas goal (appended proof line) (length proof.lines) → IsRooted lemmas goal (appended proof line)
-put_rooted lemmas goal proof line root rooted last =
+put_rooted stays lemmas goal proof line root rooted last =
     let grown : Extends proof (appended proof line) = record {
       nodes = ([], sym (append-nil proof.terms.nodes));
       branches = ([], sym (append-nil proof.branches));
@@ -99,19 +97,19 @@ put_rooted lemmas goal proof line root rooted last =
       typed = λ i below. elim (cases_eq i (length proof.lines)) [
         | inl here ↦ subst (TypedLine lemmas goal (appended proof line)) (sym here) last
         | inr other ↦ let count = one_more proof.lines line in
-            typed_lines_stay_lem lemmas goal proof (appended proof line) i grown (rooted.typed i (omega arith))
+            stays lemmas goal proof (appended proof line) i grown (rooted.typed i (omega arith))
       ];
     }
 
-pub put_written : (lemmas : Lemmas) (goal : GoalData) (old new : Proof) (rule : Rule) (premises : List ℕ) (claim : Claim) (number : ℕ) →
+pub put_written : TypedLinesStay → TypedNextLine → (lemmas : Lemmas) (goal : GoalData) (old new : Proof) (rule : Rule) (premises : List ℕ) (claim : Claim) (number : ℕ) →
     new ≡ appended old (root_line rule premises claim) → number ≡ length old.lines →
     IsRooted lemmas goal old → IsFormed goal.terms.nodes claim → All (λ p. p < length old.lines) premises →
-    Says goal goal.terms.nodes None rule (claims_at old.lines premises) claim → IsWritten lemmas goal old new number claim
-put_written lemmas goal old new rule premises claim number is place rooted formed before says =
+    Says lemmas goal goal.terms.nodes None rule (claims_at old.lines premises) claim → IsWritten lemmas goal old new number claim
+put_written stays next lemmas goal old new rule premises claim number is place rooted formed before says =
     let line : Line = root_line rule premises claim in
-    let last = put_line_typed lemmas goal old rule premises claim rooted formed before says in
+    let last = put_line_typed next lemmas goal old rule premises claim rooted formed before says in
     let here : IsWritten lemmas goal old (appended old line) (length old.lines) claim = record {
-      rooted = put_rooted lemmas goal old line refl rooted last;
+      rooted = put_rooted stays lemmas goal old line refl rooted last;
       stay = λ n c e. field_is_still (λ (it : Line). it.claim) old.lines (line ∷ []) n c e;
       claims = claim_last old.lines line;
     } in

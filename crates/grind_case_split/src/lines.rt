@@ -10,6 +10,7 @@ ghost use Rattle.grind_case_split.specs.Writing.{IsRooted, Claims, IsWritten, ro
 
 use crate::fact::Fact;
 use grind_outside::{List, Memory};
+use grind_proof_kernel::laws::{typed_lines_stay, typed_next_line};
 use grind_proof_kernel::{Claim, Line, Proof, Rule, derive};
 use grind_schemes::{Goal, Lemmas};
 use grind_term_graph::NodeId;
@@ -28,10 +29,12 @@ fn put(
     requires rooted { IsRooted lemmas.now goal.now proof.old }
     requires formed { IsFormed goal.now.terms.nodes claim }
     requires before { All (λ p. p < length proof.old.lines) premises }
-    requires says { Says goal.now goal.now.terms.nodes None rule (claims_at proof.old.lines premises) claim }
+    requires says { Says lemmas.now goal.now goal.now.terms.nodes None rule (claims_at proof.old.lines premises) claim }
     ensures written { IfOk result (λ number. IsWritten lemmas.now goal.now proof.old proof.new number claim) }
     ensures appended { OnOk result (proof.new ≡ appended proof.old (root_line rule premises claim)) }
 {
+    typed_lines_stay();
+    typed_next_line();
     let line = Line {
         branch: 0,
         rule,
@@ -53,7 +56,7 @@ pub(crate) fn put_first(
 ) -> Result<u32, Memory>
     requires rooted { IsRooted lemmas.now goal.now proof.old }
     requires formed { IsFormed goal.now.terms.nodes claim }
-    requires says { Says goal.now goal.now.terms.nodes None rule [] claim }
+    requires says { Says lemmas.now goal.now goal.now.terms.nodes None rule [] claim }
     ensures { IfOk result (λ number. IsWritten lemmas.now goal.now proof.old proof.new number claim) }
 {
     let premises = List::new(alloc);
@@ -74,7 +77,7 @@ fn put_next(
     requires rooted { IsRooted lemmas.now goal.now proof.old }
     requires formed { IsFormed goal.now.terms.nodes claim }
     requires before { premise < length proof.old.lines }
-    requires says { Says goal.now goal.now.terms.nodes None rule (claim_at proof.old.lines premise ∷ []) claim }
+    requires says { Says lemmas.now goal.now goal.now.terms.nodes None rule (claim_at proof.old.lines premise ∷ []) claim }
     ensures { IfOk result (λ number. IsWritten lemmas.now goal.now proof.old proof.new number claim) }
 {
     let mut premises = List::new(alloc);

@@ -1,8 +1,8 @@
 //! The checker on a proof of two branches. The goal is made by hand: from
 //! `a = b \/ a = c`, `f(b) = d` and `f(c) = d` follows `f(a) = d`.
 
-use crate::checker_tests::proof_of;
 use crate::made_goal::{goal_of, put};
+use crate::made_proof::proof_of;
 use crate::spelled::{claim_from, line_of, nodes_of};
 use grind_outside::{List, Memory};
 use grind_proof_kernel::{Branch, Line, Verdict, check};

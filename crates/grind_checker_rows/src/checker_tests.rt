@@ -1,11 +1,11 @@
 //! The checker on proofs of the goal `f(a) = f(a)`: terms 0 `true`, 1 `false`, 2 `a`, 3 `f(a)`, and 4 the
 //! equation of 3 with itself, the conclusion.
-ghost use Rattle.std.specs.Prelude.{IfOk, ◌≤◌, length};
-ghost use Rattle.grind_proof_kernel.specs.Typing.{HasTerms};
+ghost use Rattle.std.specs.Prelude.{◌≤◌, length};
 
+use crate::made_proof::proof_of;
 use grind_cli::reader::theory_of;
 use grind_outside::{List, Memory};
-use grind_proof_kernel::{Branch, Claim, Line, Proof, Rule, Verdict, check, check_line};
+use grind_proof_kernel::{Claim, Line, Rule, Verdict, check, check_line};
 use grind_schemes::{Goal, Lemmas};
 use grind_term_graph::NodeId;
 use std::alloc::Global;
@@ -55,24 +55,6 @@ fn lines_with(alloc: Global, third: Row) -> Result<List<Line>, Memory> {
     lines.push(line(alloc, branch, rule, &[premise], claim)?)?;
     lines.push(line(alloc, 0, Rule::Clash, &[2, 0], Claim::Absurd)?)?;
     Ok(lines)
-}
-
-/// A proof over the terms of the goal, with these branches and lines.
-pub fn proof_of(
-    alloc: Global,
-    goal: &Goal,
-    branches: List<Branch>,
-    lines: List<Line>,
-) -> Result<Proof, Memory>
-    ensures { IfOk result (HasTerms goal.now) }
-{
-    let _name = goal.name();
-    let terms = goal.terms().copy(alloc, u32::MAX)?;
-    Ok(Proof {
-        terms,
-        branches,
-        lines,
-    })
 }
 
 /// Asserts what the checker says of the proof with this third line.

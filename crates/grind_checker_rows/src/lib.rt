@@ -1,4 +1,4 @@
-//! The checker on whole proofs, compared with what it must answer.
+//! The checker on whole proofs, compared with what it must answer. Lines are kept as the text of a report.
 #![tactic(auto)]
 
 #[cfg(test)]
@@ -9,11 +9,12 @@ mod checker_tests;
 mod explain_tests;
 #[cfg(test)]
 mod made_goal;
+pub mod made_proof;
 #[cfg(test)]
 mod parallel_tests;
 #[cfg(test)]
 mod rule_tests;
 #[cfg(test)]
 mod signature_tests;
-#[cfg(test)]
-mod spelled;
+pub mod spelled;
+pub mod terms;

@@ -2,7 +2,7 @@
 ghost use Rattle.std.specs.Prelude.{◌≤◌};
 
 use crate::branch_tests::{TWO, branches_of, lines_of, made_goal};
-use crate::checker_tests::proof_of;
+use crate::made_proof::proof_of;
 use grind_par_check::check_parallel;
 use grind_proof_kernel::Verdict;
 use grind_schemes::{Goal, Lemmas};

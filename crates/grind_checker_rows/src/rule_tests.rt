@@ -1,6 +1,6 @@
 //! The checker on single lines behind the proof of two branches: lines that a rule allows, and lines that none does.
 use crate::branch_tests::{TWO, branches_of, lines_of, made_goal};
-use crate::checker_tests::proof_of;
+use crate::made_proof::proof_of;
 use grind_proof_kernel::check_line;
 use grind_schemes::{Goal, Lemmas};
 use std::process::Abort;

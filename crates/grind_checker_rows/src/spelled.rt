@@ -1,25 +1,17 @@
 //! Claims and lines from the words by which reports spell them, for tests that keep lines as text.
+use crate::terms::{form_in, integer_of, number_of, poly_in};
 use grind_outside::{List, Memory};
 use grind_proof_kernel::{Claim, Line, Rule};
 use grind_term_graph::NodeId;
 use std::alloc::Global;
-use std::test::Fail;
 
 /// The words of a text, between which white space stands.
-fn words_in<'a>(alloc: Global, text: &'a str) -> Result<Vec<&'a str>, Fail> {
-    let mut words = Vec::new(alloc);
+fn words_in<'a>(alloc: Global, text: &'a str) -> Result<List<&'a str>, Memory> {
+    let mut words = List::new(alloc);
     for word in text.split_whitespace() {
         words.push(word)?;
     }
     Ok(words)
-}
-
-/// The number that a word spells.
-fn number_of(word: &str) -> Option<u32> {
-    match word.parse::<u32>() {
-        Ok(number) => Some(number),
-        Err(_) => None,
-    }
 }
 
 /// The numbers that words spell.
@@ -78,6 +70,34 @@ fn claim_in(alloc: Global, words: &[&str]) -> Result<Option<Claim>, Memory> {
     let Some((word, rest)) = words.split_first() else {
         return Ok(None);
     };
+    match word.as_bytes() {
+        b"atmost" => bound_in(alloc, rest),
+        b"zero" => equation_in(alloc, rest),
+        _ => node_claim_in(alloc, word, rest),
+    }
+}
+
+/// The claim that a form is at most 0.
+fn bound_in(alloc: Global, words: &[&str]) -> Result<Option<Claim>, Memory> {
+    let Some(form) = form_in(alloc, words)? else {
+        return Ok(None);
+    };
+    Ok(Some(Claim::AtMost(form)))
+}
+
+/// The claim that a polynomial is 0.
+fn equation_in(alloc: Global, words: &[&str]) -> Result<Option<Claim>, Memory> {
+    let Some((poly, rest)) = poly_in(alloc, words)? else {
+        return Ok(None);
+    };
+    if rest.len() > 0 {
+        return Ok(None);
+    }
+    Ok(Some(Claim::Zero(poly)))
+}
+
+/// The claim of a word, at nodes.
+fn node_claim_in(alloc: Global, word: &str, rest: &[&str]) -> Result<Option<Claim>, Memory> {
     let Some(numbers) = numbers_of(alloc, rest)? else {
         return Ok(None);
     };
@@ -97,6 +117,13 @@ fn plain_rule(word: &str) -> Option<Rule> {
         b"back" => Some(Rule::Back),
         b"truth" => Some(Rule::Truth),
         b"untruth" => Some(Rule::Untruth),
+        b"read" => Some(Rule::Read),
+        b"write" => Some(Rule::Write),
+        b"line" => Some(Rule::Line),
+        b"poly" => Some(Rule::Poly),
+        b"pinch" => Some(Rule::Pinch),
+        b"strict" => Some(Rule::Strict),
+        b"equal" => Some(Rule::Equal),
         b"apart" => Some(Rule::Apart),
         b"clash" => Some(Rule::Clash),
         _ => None,
@@ -138,6 +165,18 @@ fn hyp_of(alloc: Global, numbers: &[u32]) -> Result<Option<Step>, Memory> {
     step_of(alloc, Rule::Hyp(*number), from)
 }
 
+/// The rule `inst`, from the number of a theorem and nodes.
+fn inst_of(alloc: Global, numbers: &[u32]) -> Result<Option<Step>, Memory> {
+    let Some((number, nodes)) = numbers.split_first() else {
+        return Ok(None);
+    };
+    let rule = Rule::Inst {
+        theorem: *number,
+        subst: nodes_of(alloc, nodes)?,
+    };
+    step_of(alloc, rule, &[])
+}
+
 /// The rule of a word at these numbers.
 fn rule_of(alloc: Global, word: &str, numbers: &[u32]) -> Result<Option<Step>, Memory> {
     if let Some(rule) = plain_rule(word) {
@@ -145,6 +184,7 @@ fn rule_of(alloc: Global, word: &str, numbers: &[u32]) -> Result<Option<Step>, M
     }
     match word.as_bytes() {
         b"hyp" => hyp_of(alloc, numbers),
+        b"inst" => inst_of(alloc, numbers),
         b"table" => table_of(alloc, numbers),
         _ => Ok(None),
     }
@@ -155,10 +195,75 @@ fn step_in(alloc: Global, words: &[&str]) -> Result<Option<Step>, Memory> {
     let Some((word, rest)) = words.split_first() else {
         return Ok(None);
     };
+    match word.as_bytes() {
+        b"combine" => combine_in(alloc, rest),
+        b"ideal" => ideal_in(alloc, rest),
+        _ => numbered_in(alloc, word, rest),
+    }
+}
+
+/// The rule of a word, and its numbers.
+fn numbered_in(alloc: Global, word: &str, rest: &[&str]) -> Result<Option<Step>, Memory> {
     let Some(numbers) = numbers_of(alloc, rest)? else {
         return Ok(None);
     };
     rule_of(alloc, word, numbers.as_slice())
+}
+
+/// The rule `combine`, from its divisor, and each factor before its premise.
+fn combine_in(alloc: Global, words: &[&str]) -> Result<Option<Step>, Memory> {
+    let Some((divisor, mut rest)) = words.split_first() else {
+        return Ok(None);
+    };
+    let Some(divisor) = integer_of(divisor) else {
+        return Ok(None);
+    };
+    let mut factors = List::new(alloc);
+    let mut premises = List::new(alloc);
+    for _ in 0..words.len() {
+        let Some((factor, behind)) = rest.split_first() else {
+            break;
+        };
+        let Some((premise, tail)) = behind.split_first() else {
+            return Ok(None);
+        };
+        let (Some(factor), Some(premise)) = (integer_of(factor), number_of(premise)) else {
+            return Ok(None);
+        };
+        factors.push(factor)?;
+        premises.push(premise)?;
+        rest = tail;
+    }
+    let rule = Rule::Combine { divisor, factors };
+    Ok(Some(Step { rule, premises }))
+}
+
+/// The rule `ideal`, from its divisor, and each premise before its factor.
+fn ideal_in(alloc: Global, words: &[&str]) -> Result<Option<Step>, Memory> {
+    let Some((divisor, mut rest)) = words.split_first() else {
+        return Ok(None);
+    };
+    let Some(divisor) = integer_of(divisor) else {
+        return Ok(None);
+    };
+    let mut factors = List::new(alloc);
+    let mut premises = List::new(alloc);
+    for _ in 0..words.len() {
+        let Some((premise, behind)) = rest.split_first() else {
+            break;
+        };
+        let Some(premise) = number_of(premise) else {
+            return Ok(None);
+        };
+        let Some((factor, tail)) = poly_in(alloc, behind)? else {
+            return Ok(None);
+        };
+        factors.push(factor)?;
+        premises.push(premise)?;
+        rest = tail;
+    }
+    let rule = Rule::Ideal { divisor, factors };
+    Ok(Some(Step { rule, premises }))
 }
 
 /// The line of a branch whose further words stand on both sides of the colon.
@@ -185,7 +290,7 @@ fn line_in(
 
 /// The line that a text spells, as `1 trans 9 4 : same 13 10`, without the number of the line: its branch, its rule,
 /// and behind a colon its claim. None where it spells no line.
-pub fn line_of(alloc: Global, text: &str) -> Result<Option<Line>, Fail> {
+pub fn line_of(alloc: Global, text: &str) -> Result<Option<Line>, Memory> {
     let Some((before, behind)) = text.split_once(':') else {
         return Ok(None);
     };
@@ -197,11 +302,11 @@ pub fn line_of(alloc: Global, text: &str) -> Result<Option<Line>, Fail> {
     let Some(branch) = number_of(branch) else {
         return Ok(None);
     };
-    Ok(line_in(alloc, branch, rest, behind.as_slice())?)
+    line_in(alloc, branch, rest, behind.as_slice())
 }
 
 /// The claim that a text spells, as `same 2 3`, or none.
-pub fn claim_from(alloc: Global, text: &str) -> Result<Option<Claim>, Fail> {
+pub fn claim_from(alloc: Global, text: &str) -> Result<Option<Claim>, Memory> {
     let words = words_in(alloc, text)?;
-    Ok(claim_in(alloc, words.as_slice())?)
+    claim_in(alloc, words.as_slice())
 }

@@ -26,6 +26,7 @@ use Rattle.grind_cli.specs.Outcomes.{ProvesGoal}
 takes_premises : (rule : Rule) (count : ℕ) → IsPremiseCount rule count → TakesPremises rule count
 takes_premises (rules.Hyp i) count h = h
 takes_premises rules.Negated count h = h
+takes_premises (rules.Inst theorem nodes) count h = h
 takes_premises rules.Branch count h = h
 takes_premises rules.Refl count h = h
 takes_premises rules.Sym count h = h
@@ -36,7 +37,16 @@ takes_premises rules.Back count h = h
 takes_premises rules.Truth count h = h
 takes_premises rules.Untruth count h = h
 takes_premises (rules.Table free) count h = tt
-takes_premises rules.Apart count h = inr (inr h)
+takes_premises rules.Read count h = h
+takes_premises rules.Write count h = h
+takes_premises rules.Line count h = h
+takes_premises rules.Poly count h = h
+takes_premises (rules.Combine divisor factors) count h = h
+takes_premises rules.Pinch count h = h
+takes_premises rules.Strict count h = h
+takes_premises rules.Apart count h = h
+takes_premises (rules.Ideal divisor factors) count h = h
+takes_premises rules.Equal count h = h
 takes_premises rules.Clash count h = h
 
 -- what holds at each place holds of each item

@@ -13,9 +13,9 @@ use Rattle.grind_value_tables.specs.Truths.{GoalTrue}
 use Rattle.grind_report.specs.Report.{RawProof, Block, Closed, Unexplored, Report, ReportOf, BlockFits, header_bytes, block_bytes, end_bytes}
 use Rattle.grind_report.specs.Blocks.{ProofOf}
 
--- the goal is true in every table of values that respects the terms of the proof
+-- the goal is true in every table of values that respects the terms of the proof and makes its listed instances true
 abbrev pub IsTrueEverywhere : GoalData → Proof → Type 0
-IsTrueEverywhere goal proof = (v : ℕ → ℤ) → Respects proof.terms.nodes v → GoalTrue goal v
+IsTrueEverywhere goal proof = (v : ℕ → ℤ) → Respects proof.terms.nodes v → GoalTrue goal proof v
 
 -- the block spells a proof that the rules type for this goal, and the goal is true wherever its terms are respected
 pub record Proves (signature : SignatureData) (lemmas : Lemmas) (goal : GoalData) (raw : RawProof) (proof : Proof) : Type 0 where

@@ -11,12 +11,12 @@ use Rattle.grind_term_graph.specs.declared.node.Node.{Node}
 use Rattle.grind_term_graph.specs.Terms.{Terms}
 use Rattle.grind_schemes.specs.Goals.{GoalData}
 use Rattle.grind_schemes.specs.declared.lemmas.Lemmas.{Lemmas}
+use Rattle.grind_proof_kernel.proofs.Growth.{some_and_then}
 use Rattle.grind_proof_kernel.specs.declared.claim.Claim.{Claim}
 use Rattle.grind_proof_kernel.specs.declared.claim.Claim.TheVariants.{Same}
 use Rattle.grind_proof_kernel.specs.declared.proof.Proof.{Proof}
 use Rattle.grind_proof_kernel.specs.Claims.{claim_at, claims_at}
 use Rattle.grind_proof_kernel.specs.Rules.{SayEqual, IsCong}
-use Rattle.grind_proof_kernel.proofs.BranchGrowth.{some_and_then}
 use Rattle.grind_classes.specs.Classes.{IsActive, AreTogether}
 use Rattle.grind_congruence.specs.declared.edge.Edge.{Edge}
 use Rattle.grind_congruence.specs.Congruence.{Congruence, Fits}

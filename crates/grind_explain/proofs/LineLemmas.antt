@@ -18,8 +18,7 @@ use Rattle.grind_proof_kernel.specs.Claims.{AreOfOneSort, claim_at, claims_at}
 use Rattle.grind_proof_kernel.specs.Rules.{Says}
 use Rattle.grind_proof_kernel.specs.Typing.{IsBranch, Reaches, Serves, IsTypedAs, TypedLine, literal_of, appended}
 use Rattle.grind_proof_kernel.specs.Laws.{Extends, TypedLinesStay, TypedNextLine}
-use Rattle.grind_proof_kernel.proofs.Growth.{some_and_stays}
-use Rattle.grind_proof_kernel.proofs.BranchGrowth.{some_and_then}
+use Rattle.grind_proof_kernel.proofs.Growth.{some_and_then, some_and_stays}
 use Rattle.grind_explain.specs.Explained.{AreTyped, IsReady, Tells, Appends, EndsWith}
 use Rattle.grind_explain.specs.Deriving.{IsUsable}
 
@@ -122,7 +121,7 @@ line_of branch rule premises a b = record { branch = branch; rule = rule; premis
 -- a line that the rule lets claim this is typed behind the others
 put_typed : (lemmas : Lemmas) (goal : GoalData) (proof : Proof) (branch : ℕ) (rule : Rule) (premises : List ℕ) (a b : ℕ) →
     IsReady lemmas goal proof branch → AreOfOneSort proof.terms.nodes a b → All (IsUsable proof branch) premises →
-    ((literal : Option Claim) → Says goal proof.terms.nodes literal rule (claims_at proof.lines premises) (Same a b)) →
+    ((literal : Option Claim) → Says lemmas goal proof.terms.nodes literal rule (claims_at proof.lines premises) (Same a b)) →
     IsTypedAs lemmas goal proof (length proof.lines) (line_of branch rule premises a b)
 put_typed lemmas goal proof branch rule premises a b ready formed usable says = record {
   claim = formed;
@@ -140,7 +139,7 @@ one_more xs x = simp length-append (omega arith)
 pub put_appends : TypedLinesStay → TypedNextLine → (lemmas : Lemmas) (goal : GoalData) (old new : Proof) (branch : ℕ) (rule : Rule)
     (premises : List ℕ) (a b : ℕ) → new ≡ appended old (line_of branch rule premises a b) →
     IsReady lemmas goal old branch → AreOfOneSort old.terms.nodes a b → All (IsUsable old branch) premises →
-    ((literal : Option Claim) → Says goal old.terms.nodes literal rule (claims_at old.lines premises) (Same a b)) →
+    ((literal : Option Claim) → Says lemmas goal old.terms.nodes literal rule (claims_at old.lines premises) (Same a b)) →
     Appends lemmas goal old new branch
 put_appends stay next lemmas goal old new branch rule premises a b is ready formed usable says =
     let line : Line = line_of branch rule premises a b in

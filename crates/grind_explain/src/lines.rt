@@ -30,7 +30,7 @@ pub(crate) fn put(
     requires formed { AreOfOneSort proof.old.terms.nodes a b }
     requires usable { All (IsUsable proof.old branch) premises }
     requires says { (literal : Option Fact)
-        → Says goal.now proof.old.terms.nodes literal rule (claims_at proof.old.lines premises) (Same a b) }
+        → Says lemmas.now goal.now proof.old.terms.nodes literal rule (claims_at proof.old.lines premises) (Same a b) }
     ensures appends { Appends lemmas.now goal.now proof.old proof.new branch }
     ensures ready { IsReady lemmas.now goal.now proof.new branch }
     ensures last { IfOk result (λ number. EndsWith proof.new branch number a b) }

@@ -1,3 +1,4 @@
 pub mod Rings
 pub mod Orders
 pub mod Quotients
+pub mod Lists

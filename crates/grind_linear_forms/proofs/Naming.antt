@@ -5,6 +5,7 @@ use Rattle.std.proofs.lemmas.Bool.{cases_Bool, cases_order, cond-true, cond-fals
 use Rattle.std.proofs.lemmas.List.{append_assoc}
 use Rattle.std.proofs.lemmas.List.Elements.{All-nil, All-cons, All-head, All-tail}
 use Rattle.std.proofs.lemmas.Option.{none-some, same_Some, slice_get_past, slice_get_within}
+use Rattle.grind_lemmas.proofs.Lists.{get-before, get-at, length-push}
 use Rattle.grind_term_graph.specs.declared.head.Head.{Head}
 use Rattle.grind_term_graph.specs.declared.head.Head.TheVariants as head
 use Rattle.grind_term_graph.specs.declared.node.Node.{Node}
@@ -17,7 +18,7 @@ use Rattle.grind_linear_forms.specs.Cuts.{times, IsCut}
 use Rattle.grind_linear_forms.specs.Readings.{is_number, product_form, of_one, of_two, reading_of, found, readings, linear}
 use Rattle.grind_linear_forms.specs.Naming.{NamesNumbers}
 use Rattle.grind_linear_forms.proofs.Merging.{multiplied-nil, multiplied-cons, merged-nil, merged-left, merged-less, merged-more, merged-same, both-some}
-use Rattle.grind_linear_forms.proofs.ReadingLemmas.{readings-nil, readings-cons, found-by, get-before, get-at, length-push}
+use Rattle.grind_linear_forms.proofs.ReadingLemmas.{readings-nil, readings-cons, found-by}
 
 module _ (P : ℕ → Type 0) where
   -- what holds of each node

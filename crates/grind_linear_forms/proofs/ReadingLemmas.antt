@@ -1,11 +1,12 @@
 -- Readings of terms along a table.
-use Rattle.std.proofs.Common.{◌≡◌, ◌⊎◌, inl, inr, ℕ, zero, suc, ◌+◌, ◌<◌, true, List, [], ◌∷◌, ◌++◌, length, map, ℤ, pos, negsuc, ◌+ℤ◌, ◌*ℤ◌, neg_ℤ, Option, Some, None, slice_get, slice_index_or, All, Contains, arith, sym, ap, ◌∙◌, refl, subst}
+use Rattle.std.proofs.Common.{◌≡◌, inl, inr, ℕ, zero, suc, ◌+◌, ◌<◌, true, List, [], ◌∷◌, ◌++◌, length, map, ℤ, pos, negsuc, ◌+ℤ◌, ◌*ℤ◌, neg_ℤ, Option, Some, None, slice_get, All, Contains, arith, sym, ap, ◌∙◌, refl, subst}
 use Rattle.std.specs.Option.{option_and_then}
 use Rattle.std.proofs.lemmas.Bool.{cases_Bool, cases_order, cond-true, cond-false}
 use Rattle.std.proofs.lemmas.List.Elements.{All-head, All-tail}
 use Rattle.std.proofs.lemmas.Option.{none-some, same_Some, slice_get_past}
 use lib.IntN.{+ℤ_idl}
 use borrow.Author.Differences.{ints}
+use Rattle.grind_lemmas.proofs.Lists.{get-before, get-at, length-push, contains-cases}
 use Rattle.grind_lemmas.specs.Products.{ProductsAssociate, ProductsCommute, ProductsDistribute}
 use Rattle.grind_term_graph.specs.declared.head.Head.{Head}
 use Rattle.grind_term_graph.specs.declared.head.Head.TheVariants as head
@@ -14,32 +15,10 @@ use Rattle.grind_linear_forms.specs.declared.form.Part.{Part}
 use Rattle.grind_linear_forms.specs.Forms.{FormData, number_form, node_form}
 use Rattle.grind_linear_forms.specs.Sums.{scaled_form, scaled_sum}
 use Rattle.grind_linear_forms.specs.Readings.{is_number, product_form, of_one, of_two, reading_of, found, readings, linear}
-use Rattle.grind_linear_forms.specs.Marks.{reads_arguments}
+use Rattle.grind_reach.specs.Reached.{reads_arguments}
 use Rattle.grind_linear_forms.specs.Values.{parts_value, form_value, OfOne, OfTwo, Computes, RespectsArithmetic}
 use Rattle.grind_linear_forms.proofs.Linear.{linear as linear_facts}
 use Rattle.grind_linear_forms.proofs.SumValues.{value-scaled_sum, value-scaled_form}
-
--- ---- lists
-pub get-before : {A : Type 0} → (xs ys : List A) (k : ℕ) → k < length xs → slice_get (xs ++ ys) k ≡ slice_get xs k
-get-before [] ys k h = absurd (omega arith)
-get-before (x ∷ xs) ys zero h = refl
-get-before (x ∷ xs) ys (suc k) h = get-before xs ys k (omega arith)
-
-pub get-at : {A : Type 0} → (xs : List A) (y : A) → slice_get (xs ++ y ∷ []) (length xs) ≡ Some y
-get-at [] y = refl
-get-at (x ∷ xs) y = get-at xs y
-
-pub length-push : {A : Type 0} → (xs : List A) (y : A) → length (xs ++ y ∷ []) ≡ length xs + 1
-length-push [] y = refl
-length-push (x ∷ xs) y = omega (arith, length-push xs y)
-
--- what a list contains is its first item or in the rest
-pub contains-cases : (b : ℕ) (rest : List ℕ) (a : ℕ) → Contains (b ∷ rest) a → (b ≡ a) ⊎ Contains rest a
-contains-cases b rest a h = at_place h.0 h.1 h.2
-  where
-    at_place : (k : ℕ) → k < length (b ∷ rest) → slice_index_or (b ∷ rest) k a ≡ a → (b ≡ a) ⊎ Contains rest a
-    at_place zero below e = inl e
-    at_place (suc k) below e = inr (k, omega arith, e)
 
 -- ---- the readings of a table
 pub readings-cons : (done : List (Option FormData)) (node : Node) (rest : List Node)

@@ -6,7 +6,6 @@
 pub mod cutting;
 pub mod form;
 pub mod laws;
-mod marking;
 mod numbers;
 pub mod reading;
 pub mod sum;

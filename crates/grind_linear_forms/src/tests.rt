@@ -109,6 +109,14 @@ fn halved(alloc: Global, form: &Form) -> Option<Result<Form, FormRefusal>> {
     Some(cut(alloc, form, 2))
 }
 
+// What a cut of a form by 4 answers, where 4 divides its coefficients.
+fn quartered(alloc: Global, form: &Form) -> Option<Result<Form, FormRefusal>> {
+    if !divides(4, form) {
+        return None;
+    }
+    Some(cut(alloc, form, 4))
+}
+
 #[test]
 fn reads_twice_x_and_three_less_x(rt: HostRuntime) -> Result<(), Fail> {
     let alloc = rt.alloc();
@@ -132,6 +140,36 @@ fn reads_twice_x_and_three_less_x(rt: HostRuntime) -> Result<(), Fail> {
     }
     let answer = read(alloc, &table, NodeId::new(8));
     assert_eq!(rt; answer, Some(form_of(alloc, (1, 2), (0, 3), 3)));
+    Ok(())
+}
+
+#[test]
+fn reads_twice_x_and_twice_x(rt: HostRuntime) -> Result<(), Fail> {
+    let alloc = rt.alloc();
+    let mut table = TermTable::new(alloc, 20)?;
+    let _leaf = put_leaf(alloc, &mut table);
+    for (head, left, right) in [(Head::Int(2), 2, 2), (Head::Mul, 3, 2), (Head::Add, 4, 4)] {
+        let _number = put(
+            alloc,
+            &mut table,
+            head,
+            NodeId::new(left),
+            NodeId::new(right),
+        );
+    }
+    let answer = read(alloc, &table, NodeId::new(5));
+    assert_eq!(rt; answer, Some(form_of(alloc, (4, 2), (0, 3), 0)));
+    Ok(())
+}
+
+#[test]
+fn cuts_by_four(rt: HostRuntime) -> Result<(), Fail> {
+    let alloc = rt.alloc();
+    let form = form_of(alloc, (4, 2), (0, 3), 3)?;
+    assert_eq!(rt;
+        quartered(alloc, &form),
+        Some(form_of(alloc, (1, 2), (0, 3), 1))
+    );
     Ok(())
 }
 
@@ -164,6 +202,10 @@ fn refuses_what_does_not_fit(rt: HostRuntime) -> Result<(), Fail> {
     );
     assert_eq!(rt;
         add_scaled(alloc, &large, 1, &large, 1),
+        Err(FormRefusal::Overflow)
+    );
+    assert_eq!(rt;
+        add_scaled(alloc, &large, 2, &Form::number(alloc, 0), 0),
         Err(FormRefusal::Overflow)
     );
     Ok(())

@@ -1,13 +1,13 @@
 -- What may be used still may be where branches and lines are put behind the others.
 use Rattle.std.proofs.Common.{◌≡◌, ℕ, Option, ◌≤◌, ◌++◌, List, [], ◌∷◌, Some, None, suc, zero, length, length-append, All, refl, ap, ◌∙◌, arith}
 use Rattle.std.specs.Prelude.{slice_get, option_and_then}
-use Rattle.std.specs.Option.{IsSomeAnd, option_map}
+use Rattle.std.specs.Option.{option_map}
 use Rattle.std.proofs.lemmas.List.Elements.{All-head, All-tail}
 use Rattle.grind_proof_kernel.specs.declared.proof.Branch.{Branch}
 use Rattle.grind_proof_kernel.specs.declared.proof.Line.{Line}
 use Rattle.grind_proof_kernel.specs.Claims.{claim_at, claims_at}
 use Rattle.grind_proof_kernel.specs.Typing.{IsBranch, parent_of, literal_of, branch_above, Reaches, Serves}
-use Rattle.grind_proof_kernel.proofs.Growth.{some_and_stays, field_is_still, field_stays, field_of_some, within_stays}
+use Rattle.grind_proof_kernel.proofs.Growth.{some_and_stays, some_and_then, field_is_still, field_stays, field_of_some, within_stays}
 
 -- a branch stays one
 pub is_branch_stays : (branches more : List Branch) (branch : ℕ) → IsBranch branches branch → IsBranch (branches ++ more) branch
@@ -46,11 +46,6 @@ reaches_stays : (branches more : List Branch) (above branch : ℕ) →
 reaches_stays branches more above branch h =
     let few : h.0 ≤ length branches = h.1 in
     (h.0, simp length-append (omega arith), above_stays branches more h.0 branch above h.2)
-
--- what follows from what holds of an item
-pub some_and_then : {X : Type 0} (P Q : X → Type 0) (o : Option X) → ((x : X) → P x → Q x) → IsSomeAnd o P → IsSomeAnd o Q
-some_and_then P Q None f h = h
-some_and_then P Q (Some x) f h = f x h
 
 -- a line that serves still does
 pub serves_stays : (branches more_branches : List Branch) (lines more : List Line) (i branch premise : ℕ) →

@@ -2,7 +2,7 @@
 use Rattle.std.proofs.Common.{◌≡◌, ℕ, ◌<◌, ◌≤◌, Bool, true, false, not, IsTrue, ◌↔◌, List, [], ◌∷◌, Option, Some, None, IsSome, All, refl, sym, subst, ◌∙◌, arith, map}
 use Rattle.std.proofs.lemmas.List.Elements.{All-head, All-tail, All-nil, All-cons, All-map}
 use Rattle.grind_proof_kernel.specs.declared.claim.Claim.{Claim}
-use Rattle.grind_proof_kernel.specs.declared.claim.Claim.TheVariants.{Holds, Fails, Same, Differ, Absurd}
+use Rattle.grind_proof_kernel.specs.declared.claim.Claim.TheVariants.{Holds, Fails, Same, Differ, AtMost, Zero, Absurd}
 use Rattle.grind_proof_kernel.specs.declared.proof.Line.{Line}
 use Rattle.grind_proof_kernel.specs.Claims.{claim_at, claims_at}
 use Rattle.grind_proof_kernel.specs.Assignments.{IsBelow, IsBelowIfAny}
@@ -83,6 +83,8 @@ below_rises low high (Holds n) le h = omega arith
 below_rises low high (Fails n) le h = omega arith
 below_rises low high (Same a b) le h = tt
 below_rises low high (Differ a b) le h = tt
+below_rises low high (AtMost form) le h = tt
+below_rises low high (Zero poly) le h = tt
 below_rises low high Absurd le h = tt
 
 pub below_rises_if_any : (low high : ℕ) (claim : Option Claim) → low ≤ high → IsBelowIfAny low claim → IsBelowIfAny high claim
@@ -98,6 +100,8 @@ literal_agrees one other bound (Holds n) agree h = agree n h
 literal_agrees one other bound (Fails n) agree h = rw (agree n h) refl
 literal_agrees one other bound (Same a b) agree h = refl
 literal_agrees one other bound (Differ a b) agree h = refl
+literal_agrees one other bound (AtMost form) agree h = refl
+literal_agrees one other bound (Zero poly) agree h = refl
 literal_agrees one other bound Absurd agree h = refl
 
 conclusion_agrees : (one other : ℕ → Option Bool) (bound : ℕ) (claim : Claim) →
@@ -106,6 +110,8 @@ conclusion_agrees one other bound (Holds n) agree h = agree n h
 conclusion_agrees one other bound (Fails n) agree h = rw (agree n h) refl
 conclusion_agrees one other bound (Same a b) agree h = refl
 conclusion_agrees one other bound (Differ a b) agree h = refl
+conclusion_agrees one other bound (AtMost form) agree h = refl
+conclusion_agrees one other bound (Zero poly) agree h = refl
 conclusion_agrees one other bound Absurd agree h = refl
 
 premise_agrees : (one other : ℕ → Option Bool) (bound : ℕ) (premise : Option Claim) →

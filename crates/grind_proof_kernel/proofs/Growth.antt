@@ -1,11 +1,17 @@
 -- What stays where lists grow behind.
-use Rattle.std.proofs.Common.{◌≡◌, ℕ, ◌<◌, ◌++◌, List, [], ◌∷◌, Some, IsSome, suc, zero, length, refl, sym, ◌∙◌, arith}
+use Rattle.std.proofs.Common.{◌≡◌, ℕ, All, ◌<◌, ◌++◌, List, [], ◌∷◌, Option, Some, None, IsSome, suc, zero, length, refl, sym, ◌∙◌, arith}
 use Rattle.std.specs.Prelude.{slice_get}
 use Rattle.std.specs.Option.{IsSomeAnd, option_map}
 use Rattle.grind_term_graph.specs.declared.node.Node.{Node}
-use Rattle.grind_term_graph.specs.Terms.{prop, sort_at}
+use Rattle.grind_term_graph.specs.Terms.{prop, int, sort_at}
+use Rattle.std.proofs.lemmas.List.Elements.{All-weaker}
+use Rattle.grind_linear_forms.specs.declared.form.Part.{Part}
+use Rattle.grind_linear_forms.specs.Forms.{FormData}
+use Rattle.grind_linear_forms.specs.Naming.{NamesNumbers}
+use Rattle.grind_polynomials.specs.declared.poly.Term.{Term}
+use Rattle.grind_differences.specs.Equations.{MultipliesNumbers}
 use Rattle.grind_proof_kernel.specs.declared.claim.Claim.{Claim}
-use Rattle.grind_proof_kernel.specs.declared.claim.Claim.TheVariants.{Holds, Fails, Same, Differ, Absurd}
+use Rattle.grind_proof_kernel.specs.declared.claim.Claim.TheVariants.{Holds, Fails, Same, Differ, AtMost, Zero, Absurd}
 use Rattle.grind_proof_kernel.specs.Claims.{AreOfOneSort, IsFormed}
 
 -- what holds of an item still holds of it
@@ -14,6 +20,11 @@ pub some_and_stays : {X : Type 0} (P : X → Type 0) (xs ys : List X) (i : ℕ) 
 some_and_stays P [] ys i h = absurd h
 some_and_stays P (x ∷ xs) ys zero h = h
 some_and_stays P (x ∷ xs) ys (suc i) h = some_and_stays P xs ys i h
+
+-- what follows from what holds of an item
+pub some_and_then : {X : Type 0} (P Q : X → Type 0) (o : Option X) → ((x : X) → P x → Q x) → IsSomeAnd o P → IsSomeAnd o Q
+some_and_then P Q None f h = h
+some_and_then P Q (Some x) f h = f x h
 
 -- a field of an item that stands there stays what it is
 pub field_is_still : {X Y : Type 0} (f : X → Y) (xs ys : List X) (i : ℕ) (y : Y) →
@@ -65,10 +76,25 @@ one_sort_stays nodes more left right h =
     let r = sort_stays nodes more right other in
     (rw l h.0, l ∙ h.1 ∙ sym r)
 
+-- whole numbers stay whole numbers
+names_stay : (nodes more : List Node) (form : FormData) → NamesNumbers nodes form → NamesNumbers (nodes ++ more) form
+names_stay nodes more form h =
+    All-weaker (λ (part : Part). sort_at nodes part.node ≡ Some int) (λ (part : Part). sort_at (nodes ++ more) part.node ≡ Some int)
+    (λ part e. field_is_still (λ (it : Node). it.sort) nodes more part.node int e) form.parts h
+
+multiplies_stay : (nodes more : List Node) (poly : List Term) → MultipliesNumbers nodes poly → MultipliesNumbers (nodes ++ more) poly
+multiplies_stay nodes more poly h =
+    All-weaker (λ (term : Term). All (λ n. sort_at nodes n ≡ Some int) term.monomial)
+    (λ (term : Term). All (λ n. sort_at (nodes ++ more) n ≡ Some int) term.monomial)
+    (λ term numbers. All-weaker (λ n. sort_at nodes n ≡ Some int) (λ n. sort_at (nodes ++ more) n ≡ Some int)
+    (λ n e. field_is_still (λ (it : Node). it.sort) nodes more n int e) term.monomial numbers) poly h
+
 -- well-formed claims stay well formed
 pub formed_stays : (nodes more : List Node) (claim : Claim) → IsFormed nodes claim → IsFormed (nodes ++ more) claim
 formed_stays nodes more (Holds node) h = formula_stays nodes more node h
 formed_stays nodes more (Fails node) h = formula_stays nodes more node h
 formed_stays nodes more (Same left right) h = one_sort_stays nodes more left right h
 formed_stays nodes more (Differ left right) h = one_sort_stays nodes more left right h
+formed_stays nodes more (AtMost form) h = names_stay nodes more form h
+formed_stays nodes more (Zero poly) h = multiplies_stay nodes more poly h
 formed_stays nodes more Absurd h = tt

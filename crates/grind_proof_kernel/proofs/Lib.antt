@@ -1,5 +1,8 @@
 pub mod Premises
 pub mod RuleLemmas
+pub mod BoundLemmas
+pub mod CombineLemmas
+pub mod InstanceWalks
 pub mod Growth
 pub mod TableGrowth
 pub mod RuleGrowth

@@ -1,12 +1,17 @@
 -- What single rules read.
-use Rattle.std.proofs.Common.{◌≡◌, ℕ, ◌+◌, ◌-◌, ◌<◌, ◌↔◌, List, [], ◌∷◌, Some, length, All, refl, arith}
+use Rattle.std.proofs.Common.{◌≡◌, ℕ, ◌+◌, ◌-◌, ◌<◌, ◌↔◌, List, [], ◌∷◌, Option, Some, length, All, refl, sym, ◌∙◌, subst, arith, Bool, IsTrue}
 use Rattle.std.specs.Prelude.{slice_get}
+use Rattle.std.specs.Option.{IsSomeAnd}
 use Rattle.std.proofs.lemmas.List.Elements.{All-tail}
+use Rattle.grind_term_graph.specs.declared.node.Node.{Node}
 use Rattle.grind_schemes.specs.Goals.{GoalData}
+use Rattle.grind_schemes.specs.Theorems.{TheoremData}
+use Rattle.grind_schemes.specs.declared.lemmas.Lemmas.{Lemmas}
+use Rattle.grind_proof_kernel.specs.declared.claim.Claim.{Claim}
 use Rattle.grind_proof_kernel.specs.declared.claim.Claim.TheVariants.{Holds, Same}
 use Rattle.grind_proof_kernel.specs.declared.proof.Line.{Line}
 use Rattle.grind_proof_kernel.specs.Claims.{claim_at, claims_at}
-use Rattle.grind_proof_kernel.specs.Rules.{IsHyp, SayEqual}
+use Rattle.grind_proof_kernel.specs.Rules.{IsHyp, IsBodyAt, IsInst, SayEqual}
 
 -- where hypothesis i stands
 hyp_stands : (hyps : List ℕ) (i n k m : ℕ) → i ≡ k + 1 → slice_get hyps k ≡ Some m → Holds n ≡ Holds m →
@@ -36,3 +41,17 @@ pub others_within : (lines : List Line) (ps ps_tail : List ℕ) (p : ℕ) → ps
     All (λ n. n < length lines) ps → All (λ n. n < length lines) ps_tail
 others_within lines ps ps_tail p e within =
     All-tail (λ n. n < length lines) p ps_tail (rw e at within)
+
+-- a test of what a theorem says, read as one of the rule
+pub inst_by_body : (lemmas : Lemmas) (nodes : List Node) (t : ℕ) (subst : List ℕ) (premises : List (Option Claim)) (claim : Claim)
+    (theorem : TheoremData) (n : ℕ) (b : Bool) → premises ≡ [] → claim ≡ Holds n → slice_get lemmas.theorems t ≡ Some theorem →
+    (IsTrue b ↔ IsBodyAt nodes theorem subst n) → IsTrue b ↔ IsInst lemmas nodes t subst premises claim
+inst_by_body lemmas nodes t ids premises claim theorem n b none is there decides =
+    let P : Option TheoremData → ℕ → Type 0 = λ o m. IsSomeAnd o (λ (it : TheoremData). IsBodyAt nodes it ids m) in (
+      λ h. (n, subst (λ (o : Option TheoremData). P o n) (sym there) (decides.0 h), none, is),
+      λ h. decides.1 (subst (IsBodyAt nodes theorem ids) (same_node h.0 n (sym h.3 ∙ is))
+          (subst (λ (o : Option TheoremData). P o h.0) there h.1)),
+    )
+  where
+    same_node : (m k : ℕ) → Holds m ≡ Holds k → m ≡ k
+    same_node m k e = cc

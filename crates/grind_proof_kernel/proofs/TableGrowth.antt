@@ -5,7 +5,7 @@ use Rattle.std.proofs.lemmas.List.Elements.{All-weaker}
 use Rattle.grind_term_graph.specs.declared.node.Node.{Node}
 use Rattle.grind_term_graph.specs.Terms.{prop, sort_at}
 use Rattle.grind_proof_kernel.specs.declared.claim.Claim.{Claim}
-use Rattle.grind_proof_kernel.specs.declared.claim.Claim.TheVariants.{Holds, Fails, Same, Differ, Absurd}
+use Rattle.grind_proof_kernel.specs.declared.claim.Claim.TheVariants.{Holds, Fails, Same, Differ, AtMost, Zero, Absurd}
 use Rattle.grind_proof_kernel.specs.Tables.{truth_at, node_truth, truths_of, truth_of, conclusion_truth, premise_truth, Follows, IsTable}
 use Rattle.grind_proof_kernel.proofs.Growth.{formula_stays}
 
@@ -53,6 +53,8 @@ conclusion_stays old new (Holds n) on h = on n h
 conclusion_stays old new (Fails n) on h = rw (on n (some_before_not (old n) h)) refl
 conclusion_stays old new (Same a b) on h = refl
 conclusion_stays old new (Differ a b) on h = refl
+conclusion_stays old new (AtMost form) on h = refl
+conclusion_stays old new (Zero poly) on h = refl
 conclusion_stays old new Absurd on h = refl
 
 -- the truth of a premise stays
@@ -63,6 +65,8 @@ premise_stays old new (Some (Holds n)) on h = on n h
 premise_stays old new (Some (Fails n)) on h = rw (on n (some_before_not (old n) h)) refl
 premise_stays old new (Some (Same a b)) on h = refl
 premise_stays old new (Some (Differ a b)) on h = refl
+premise_stays old new (Some (AtMost form)) on h = refl
+premise_stays old new (Some (Zero poly)) on h = refl
 premise_stays old new (Some Absurd) on h = refl
 
 -- a premise that has a truth still has one

@@ -1,7 +1,7 @@
 -- Words for the walk over the assignments of the rule `table`. No public clause cites them.
 use Rattle.std.specs.Prelude.{◌≡◌, ℕ, ◌<◌, Bool, List, ◌++◌, length, Option, Some, None}
 use Rattle.grind_proof_kernel.specs.declared.claim.Claim.{Claim}
-use Rattle.grind_proof_kernel.specs.declared.claim.Claim.TheVariants.{Holds, Fails, Same, Differ, Absurd}
+use Rattle.grind_proof_kernel.specs.declared.claim.Claim.TheVariants.{Holds, Fails, Same, Differ, AtMost, Zero, Absurd}
 
 -- the fact holds of each list of truths that begins with the chosen ones and has so many more
 abbrev pub HoldsBehind : (List Bool → Type 0) → List Bool → ℕ → Type 0
@@ -13,6 +13,8 @@ IsBelow bound (Holds n) = n < bound
 IsBelow bound (Fails n) = n < bound
 IsBelow bound (Same a b) = Unit {0}
 IsBelow bound (Differ a b) = Unit {0}
+IsBelow bound (AtMost form) = Unit {0}
+IsBelow bound (Zero poly) = Unit {0}
 IsBelow bound Absurd = Unit {0}
 
 -- the same of a claim that is there

@@ -3,20 +3,25 @@ use Rattle.std.specs.Prelude.{◌≡◌, ℕ, List, Option, Some, IsSome, map, s
 use Rattle.std.specs.Option.{option_map}
 use Rattle.grind_term_graph.specs.declared.node.Node.{Node}
 use Rattle.grind_term_graph.specs.Terms.{prop, sort_at}
+use Rattle.grind_linear_forms.specs.Naming.{NamesNumbers}
+use Rattle.grind_differences.specs.Equations.{MultipliesNumbers}
 use Rattle.grind_proof_kernel.specs.declared.claim.Claim.{Claim}
-use Rattle.grind_proof_kernel.specs.declared.claim.Claim.TheVariants.{Holds, Fails, Same, Differ, Absurd}
+use Rattle.grind_proof_kernel.specs.declared.claim.Claim.TheVariants.{Holds, Fails, Same, Differ, AtMost, Zero, Absurd}
 use Rattle.grind_proof_kernel.specs.declared.proof.Line.{Line}
 
 -- two nodes of one sort
 abbrev pub AreOfOneSort : List Node → ℕ → ℕ → Type 0
 AreOfOneSort nodes left right = IsSome (sort_at nodes left) × (sort_at nodes left ≡ sort_at nodes right)
 
--- a claim over these nodes: truth and falsity are of formulas, and terms are equal or different within one sort
+-- a claim over these nodes: truth and falsity are of formulas, terms are equal or different within one sort, and forms
+-- and polynomials name whole numbers
 abbrev pub IsFormed : List Node → Claim → Type 0
 IsFormed nodes (Holds node) = sort_at nodes node ≡ Some prop
 IsFormed nodes (Fails node) = sort_at nodes node ≡ Some prop
 IsFormed nodes (Same left right) = AreOfOneSort nodes left right
 IsFormed nodes (Differ left right) = AreOfOneSort nodes left right
+IsFormed nodes (AtMost form) = NamesNumbers nodes form
+IsFormed nodes (Zero poly) = MultipliesNumbers nodes poly
 IsFormed nodes Absurd = ⊤
 
 -- what a line claims

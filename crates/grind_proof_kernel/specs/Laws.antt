@@ -28,8 +28,9 @@ TypedLinesStay =
 -- what a rule lets a line claim stays so where terms are put behind the others
 abbrev pub SaysStays : Type 0
 SaysStays =
-    (goal : GoalData) (nodes more : List Node) (literal : Option Claim) (rule : Rule) (premises : List (Option Claim)) (claim : Claim) →
-    Says goal nodes literal rule premises claim → Says goal (nodes ++ more) literal rule premises claim
+    (lemmas : Lemmas) (goal : GoalData) (nodes more : List Node) (literal : Option Claim) (rule : Rule)
+    (premises : List (Option Claim)) (claim : Claim) →
+    Says lemmas goal nodes literal rule premises claim → Says lemmas goal (nodes ++ more) literal rule premises claim
 
 -- a line that is typed behind the lines of a proof is typed once it stands there
 abbrev pub TypedNextLine : Type 0
@@ -42,6 +43,7 @@ TypedNextLine =
 abbrev pub IsPremiseCount : Rule → ℕ → Type 0
 IsPremiseCount (rules.Hyp i) count = count ≡ 0
 IsPremiseCount rules.Negated count = count ≡ 0
+IsPremiseCount (rules.Inst t subst) count = count ≡ 0
 IsPremiseCount rules.Branch count = count ≡ 0
 IsPremiseCount rules.Refl count = count ≡ 0
 IsPremiseCount rules.Sym count = count ≡ 1
@@ -52,7 +54,16 @@ IsPremiseCount rules.Back count = count ≡ 1
 IsPremiseCount rules.Truth count = count ≡ 1
 IsPremiseCount rules.Untruth count = count ≡ 1
 IsPremiseCount (rules.Table free) count = Unit {0}
-IsPremiseCount rules.Apart count = count ≡ 3
+IsPremiseCount rules.Read count = count ≡ 1
+IsPremiseCount rules.Write count = count ≡ 1
+IsPremiseCount rules.Line count = count ≡ 1
+IsPremiseCount rules.Poly count = count ≡ 1
+IsPremiseCount (rules.Combine divisor factors) count = count ≡ length factors
+IsPremiseCount rules.Pinch count = count ≡ 2
+IsPremiseCount rules.Strict count = count ≡ 2
+IsPremiseCount rules.Apart count = (count ≡ 0) ⊎ ((count ≡ 1) ⊎ (count ≡ 3))
+IsPremiseCount (rules.Ideal divisor factors) count = count ≡ length factors
+IsPremiseCount rules.Equal count = count ≡ 1
 IsPremiseCount rules.Clash count = (count ≡ 1) ⊎ (count ≡ 2)
 
 -- a typed line has as many premises as its rule asks for

@@ -1,15 +1,20 @@
 -- Worked cases: for some rules a line that the rule allows, and one that it refuses.
-use Rattle.std.specs.Prelude.{◌≡◌, Bool, true, false, List, [], ◌∷◌, ◌++◌, ◌⊎◌, length, Option, Some, refl}
+use Rattle.std.specs.Prelude.{◌≡◌, ℕ, Bool, true, false, List, [], ◌∷◌, ◌++◌, ◌⊎◌, length, Option, Some, refl}
 use Rattle.std.proofs.Common.{lit≤, inl, inr, arith}
 use Rattle.std.proofs.lemmas.List.Elements.{All-nil, All-cons}
 use Rattle.grind_term_graph.specs.declared.head.Head.TheVariants as head
 use Rattle.grind_term_graph.specs.declared.node.Node.{Node}
 use Rattle.grind_term_graph.specs.Terms.{prop, int, opening, sort_at}
 use Rattle.grind_schemes.specs.Goals.{GoalData, goal_data}
+use Rattle.grind_schemes.specs.Theorems.{theorem_data}
+use Rattle.grind_schemes.specs.declared.scheme.Scheme.{Var}
+use Rattle.grind_schemes.specs.declared.limits.Limits.{Limits}
+use Rattle.grind_schemes.specs.declared.lemmas.Lemmas.{Lemmas}
 use Rattle.grind_proof_kernel.specs.declared.claim.Claim.{Claim}
 use Rattle.grind_proof_kernel.specs.declared.claim.Claim.TheVariants.{Holds, Fails, Same, Differ, Absurd}
 use Rattle.grind_proof_kernel.specs.Tables.{truth_of, Follows, IsTable}
-use Rattle.grind_proof_kernel.specs.Rules.{IsHyp, IsTrans, IsCong, IsClash, IsApart, AreOpposed, AreSplit}
+use Rattle.grind_proof_kernel.specs.LinearRules.{KeepApart, IsApart}
+use Rattle.grind_proof_kernel.specs.Rules.{IsHyp, IsInst, IsTrans, IsCong, IsClash, AreOpposed, AreSplit}
 
 -- True, False, two numbers a and b (2 and 3), f(a) and f(b) (4 and 5), and a formula p, its negation and p or not p (6, 7 and 8)
 abbrev nodes : List Node
@@ -31,6 +36,17 @@ hyp_counts_from_one = (0, 6, refl, refl, refl, refl)
 
 pub hyp_has_no_zero : (goal : GoalData) (claim : Claim) → IsHyp goal 0 [] claim → ⊥
 hyp_has_no_zero goal claim h = absurd (omega (arith, h.2))
+
+-- one theorem, which says that each formula holds
+abbrev of_theorem : Limits → Lemmas
+of_theorem limits = record { theorems = theorem_data [] (prop ∷ []) (Var 0) [] ∷ []; limits = limits }
+
+-- a formula may stand for its variable, and a number may not
+pub inst_of_a_formula : (limits : Limits) → IsInst (of_theorem limits) nodes 0 (6 ∷ []) [] (Holds 6)
+inst_of_a_formula limits = (6, (refl, refl), refl, refl)
+
+pub inst_of_a_number : (limits : Limits) → IsInst (of_theorem limits) nodes 0 (2 ∷ []) [] (Holds 2) → ⊥
+inst_of_a_number limits h = let wrong = h.1.0 in absurd cc
 
 -- equalities make one where they meet
 pub trans_meets : IsTrans (Some (Same 2 3) ∷ Some (Same 3 4) ∷ []) (Same 2 4)
@@ -68,11 +84,16 @@ clash_of_two_formulas h = elim h.1 [
 ]
 
 -- the difference stands before the equalities
-pub apart_from_both : IsApart (Some (Differ 2 3) ∷ Some (Same 4 2) ∷ Some (Same 5 3) ∷ []) (Differ 5 4)
-apart_from_both = (4, 5, 2, 3, refl, inr refl)
+pub apart_from_both : IsApart nodes (Some (Differ 2 3) ∷ Some (Same 4 2) ∷ Some (Same 5 3) ∷ []) (Differ 5 4)
+apart_from_both = (5, 4, refl, inr (inr (inr (2, 3, refl))))
 
-pub apart_the_other_way : IsApart (Some (Same 4 2) ∷ Some (Differ 2 3) ∷ Some (Same 5 3) ∷ []) (Differ 4 5) → ⊥
-apart_the_other_way h = absurd cc
+no_difference_first : (a b : ℕ) → KeepApart nodes (Some (Same 4 2) ∷ Some (Differ 2 3) ∷ Some (Same 5 3) ∷ []) a b → ⊥
+no_difference_first a b (inl h) = let e = h.0 in absurd cc
+no_difference_first a b (inr (inl h)) = let e = h.1 in absurd cc
+no_difference_first a b (inr (inr h)) = let e = h.2 in absurd cc
+
+pub apart_the_other_way : IsApart nodes (Some (Same 4 2) ∷ Some (Differ 2 3) ∷ Some (Same 5 3) ∷ []) (Differ 4 5) → ⊥
+apart_the_other_way h = elim h.3 [ inl k ↦ no_difference_first h.0 h.1 k | inr k ↦ no_difference_first h.1 h.0 k ]
 
 -- p or not p, whatever p is
 either_way : (truths : List Bool) → length truths ≡ 1 → Follows (truth_of nodes (6 ∷ []) truths) [] (Holds 8)

@@ -5,10 +5,15 @@ use Rattle.std.specs.Option.{IsSomeAnd}
 use Rattle.grind_term_graph.specs.declared.head.Head.TheVariants as head
 use Rattle.grind_term_graph.specs.declared.node.Node.{Node}
 use Rattle.grind_schemes.specs.Goals.{GoalData}
+use Rattle.grind_schemes.specs.Instances.{IsSubstitution, IsInstance}
+use Rattle.grind_schemes.specs.Theorems.{TheoremData}
+use Rattle.grind_schemes.specs.declared.lemmas.Lemmas.{Lemmas}
 use Rattle.grind_proof_kernel.specs.declared.claim.Claim.{Claim}
 use Rattle.grind_proof_kernel.specs.declared.claim.Claim.TheVariants.{Holds, Fails, Same, Differ, Absurd}
 use Rattle.grind_proof_kernel.specs.declared.proof.Rule.{Rule}
 use Rattle.grind_proof_kernel.specs.declared.proof.Rule.TheVariants as rules
+use Rattle.grind_proof_kernel.specs.LinearRules.{IsRead, IsWrite, IsLine, IsCombine, IsPinch, IsStrict, IsApart, IsTooGreat}
+use Rattle.grind_proof_kernel.specs.PolyRules.{IsPolyRule, IsIdeal, IsEqual, IsFalseZero}
 use Rattle.grind_proof_kernel.specs.Tables.{IsTable}
 
 -- the number of the node `True`, and of `False`, in every table of terms
@@ -39,6 +44,16 @@ IsHyp goal i premises claim = (k : ℕ) × (n : ℕ)
 -- negated: from nothing, the conclusion of the goal fails
 abbrev pub IsNegated : GoalData → List (Option Claim) → Claim → Type 0
 IsNegated goal premises claim = (premises ≡ []) × (claim ≡ Fails goal.show)
+
+-- the node is what the theorem says of these nodes, one of the right sort for each of its variables
+abbrev pub IsBodyAt : List Node → TheoremData → List ℕ → ℕ → Type 0
+IsBodyAt nodes theorem subst n = IsSubstitution nodes theorem.vars subst × IsInstance nodes subst theorem.body n
+
+-- inst: from nothing, what theorem t says of these nodes holds
+abbrev pub IsInst : Lemmas → List Node → ℕ → List ℕ → List (Option Claim) → Claim → Type 0
+IsInst lemmas nodes t subst premises claim = (n : ℕ)
+    × IsSomeAnd (slice_get lemmas.theorems t) (λ (theorem : TheoremData). IsBodyAt nodes theorem subst n)
+    × (premises ≡ []) × (claim ≡ Holds n)
 
 -- branch: from nothing, what the branch assumes
 abbrev pub IsAssumed : Option Claim → List (Option Claim) → Claim → Type 0
@@ -94,12 +109,6 @@ IsUntruth premises claim = (n : ℕ)
     × (((premises ≡ Some (Same n true_node) ∷ []) × (claim ≡ Holds n))
     ⊎ ((premises ≡ Some (Same n false_node) ∷ []) × (claim ≡ Fails n)))
 
--- apart: what equals one of two different terms differs from what equals the other
-abbrev pub IsApart : List (Option Claim) → Claim → Type 0
-IsApart premises claim = (a : ℕ) × (b : ℕ) × (c : ℕ) × (d : ℕ)
-    × (premises ≡ Some (Differ c d) ∷ Some (Same a c) ∷ Some (Same b d) ∷ [])
-    × ((claim ≡ Differ a b) ⊎ (claim ≡ Differ b a))
-
 -- a formula that holds, and that fails
 abbrev pub AreOpposed : Option Claim → Option Claim → Type 0
 AreOpposed one other = (n : ℕ) × (one ≡ Some (Holds n)) × (other ≡ Some (Fails n))
@@ -117,8 +126,12 @@ abbrev pub AreTwoNumbers : List Node → ℕ → ℕ → Type 0
 AreTwoNumbers nodes a b = (j : ℤ) × (k : ℤ) × IsNumber nodes a j × IsNumber nodes b k × (j ≢ k)
 
 -- `True` and `False`, or two different numbers, that are equal
+abbrev pub IsFalseEquality : List Node → Option Claim → Type 0
+IsFalseEquality nodes one = (a : ℕ) × (b : ℕ) × (one ≡ Some (Same a b)) × (AreBothTruths a b ⊎ AreTwoNumbers nodes a b)
+
+-- a claim that cannot be: such an equality, a number over 0 that is at most 0, or another number than 0 that is 0
 abbrev pub IsImpossible : List Node → Option Claim → Type 0
-IsImpossible nodes one = (a : ℕ) × (b : ℕ) × (one ≡ Some (Same a b)) × (AreBothTruths a b ⊎ AreTwoNumbers nodes a b)
+IsImpossible nodes one = IsFalseEquality nodes one ⊎ (IsTooGreat one ⊎ IsFalseZero one)
 
 -- clash: claims that contradict each other, in either order, or a claim that cannot be
 abbrev pub IsClash : List Node → List (Option Claim) → Claim → Type 0
@@ -128,18 +141,55 @@ IsClash nodes premises claim = (claim ≡ Absurd)
     ⊎ ((one : Option Claim) × (premises ≡ one ∷ []) × IsImpossible nodes one))
 
 -- the rule lets a line claim this, in a branch that assumes the literal, with premises of these claims
-abbrev pub Says : GoalData → List Node → Option Claim → Rule → List (Option Claim) → Claim → Type 0
-Says goal nodes literal (rules.Hyp i) premises claim = IsHyp goal i premises claim
-Says goal nodes literal rules.Negated premises claim = IsNegated goal premises claim
-Says goal nodes literal rules.Branch premises claim = IsAssumed literal premises claim
-Says goal nodes literal rules.Refl premises claim = IsRefl premises claim
-Says goal nodes literal rules.Sym premises claim = IsSym premises claim
-Says goal nodes literal rules.Trans premises claim = IsTrans premises claim
-Says goal nodes literal rules.Cong premises claim = IsCong nodes premises claim
-Says goal nodes literal rules.Eq premises claim = IsEq nodes premises claim
-Says goal nodes literal rules.Back premises claim = IsBack nodes premises claim
-Says goal nodes literal rules.Truth premises claim = IsTruth premises claim
-Says goal nodes literal rules.Untruth premises claim = IsUntruth premises claim
-Says goal nodes literal (rules.Table free) premises claim = IsTable nodes free premises claim
-Says goal nodes literal rules.Apart premises claim = IsApart premises claim
-Says goal nodes literal rules.Clash premises claim = IsClash nodes premises claim
+abbrev pub Says : Lemmas → GoalData → List Node → Option Claim → Rule → List (Option Claim) → Claim → Type 0
+Says lemmas goal nodes literal (rules.Hyp i) premises claim = IsHyp goal i premises claim
+Says lemmas goal nodes literal rules.Negated premises claim = IsNegated goal premises claim
+Says lemmas goal nodes literal (rules.Inst t subst) premises claim = IsInst lemmas nodes t subst premises claim
+Says lemmas goal nodes literal rules.Branch premises claim = IsAssumed literal premises claim
+Says lemmas goal nodes literal rules.Refl premises claim = IsRefl premises claim
+Says lemmas goal nodes literal rules.Sym premises claim = IsSym premises claim
+Says lemmas goal nodes literal rules.Trans premises claim = IsTrans premises claim
+Says lemmas goal nodes literal rules.Cong premises claim = IsCong nodes premises claim
+Says lemmas goal nodes literal rules.Eq premises claim = IsEq nodes premises claim
+Says lemmas goal nodes literal rules.Back premises claim = IsBack nodes premises claim
+Says lemmas goal nodes literal rules.Truth premises claim = IsTruth premises claim
+Says lemmas goal nodes literal rules.Untruth premises claim = IsUntruth premises claim
+Says lemmas goal nodes literal (rules.Table free) premises claim = IsTable nodes free premises claim
+Says lemmas goal nodes literal rules.Read premises claim = IsRead nodes premises claim
+Says lemmas goal nodes literal rules.Write premises claim = IsWrite nodes premises claim
+Says lemmas goal nodes literal rules.Line premises claim = IsLine nodes premises claim
+Says lemmas goal nodes literal rules.Poly premises claim = IsPolyRule nodes premises claim
+Says lemmas goal nodes literal (rules.Combine divisor factors) premises claim = IsCombine divisor factors premises claim
+Says lemmas goal nodes literal rules.Pinch premises claim = IsPinch nodes premises claim
+Says lemmas goal nodes literal rules.Strict premises claim = IsStrict nodes premises claim
+Says lemmas goal nodes literal rules.Apart premises claim = IsApart nodes premises claim
+Says lemmas goal nodes literal (rules.Ideal divisor factors) premises claim = IsIdeal divisor factors premises claim
+Says lemmas goal nodes literal rules.Equal premises claim = IsEqual nodes premises claim
+Says lemmas goal nodes literal rules.Clash premises claim = IsClash nodes premises claim
+
+-- the rule reads no terms and assigns no truths: its test takes no memory
+abbrev pub TakesNoMemory : Rule → Type 0
+TakesNoMemory (rules.Hyp i) = Unit {0}
+TakesNoMemory rules.Negated = Unit {0}
+TakesNoMemory (rules.Inst t subst) = Unit {0}
+TakesNoMemory rules.Branch = Unit {0}
+TakesNoMemory rules.Refl = Unit {0}
+TakesNoMemory rules.Sym = Unit {0}
+TakesNoMemory rules.Trans = Unit {0}
+TakesNoMemory rules.Cong = Unit {0}
+TakesNoMemory rules.Eq = Unit {0}
+TakesNoMemory rules.Back = Unit {0}
+TakesNoMemory rules.Truth = Unit {0}
+TakesNoMemory rules.Untruth = Unit {0}
+TakesNoMemory (rules.Table free) = ⊥
+TakesNoMemory rules.Read = ⊥
+TakesNoMemory rules.Write = ⊥
+TakesNoMemory rules.Line = ⊥
+TakesNoMemory rules.Poly = ⊥
+TakesNoMemory (rules.Combine divisor factors) = ⊥
+TakesNoMemory rules.Pinch = ⊥
+TakesNoMemory rules.Strict = ⊥
+TakesNoMemory rules.Apart = ⊥
+TakesNoMemory (rules.Ideal divisor factors) = ⊥
+TakesNoMemory rules.Equal = ⊥
+TakesNoMemory rules.Clash = Unit {0}

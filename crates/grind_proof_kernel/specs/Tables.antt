@@ -7,7 +7,7 @@ use Rattle.grind_term_graph.specs.declared.head.Head.TheVariants as head
 use Rattle.grind_term_graph.specs.declared.node.Node.{Node}
 use Rattle.grind_term_graph.specs.Terms.{prop, sort_at}
 use Rattle.grind_proof_kernel.specs.declared.claim.Claim.{Claim}
-use Rattle.grind_proof_kernel.specs.declared.claim.Claim.TheVariants.{Holds, Fails, Same, Differ, Absurd}
+use Rattle.grind_proof_kernel.specs.declared.claim.Claim.TheVariants.{Holds, Fails, Same, Differ, AtMost, Zero, Absurd}
 
 -- An assignment is a list of truths, one for each free node in order.
 
@@ -85,6 +85,8 @@ literal_truth truth (Holds n) = truth n
 literal_truth truth (Fails n) = option_map not (truth n)
 literal_truth truth (Same a b) = None
 literal_truth truth (Differ a b) = None
+literal_truth truth (AtMost form) = None
+literal_truth truth (Zero poly) = None
 literal_truth truth Absurd = None
 
 -- the truth of what the rule may claim: a literal, or a contradiction, which is never true
@@ -93,6 +95,8 @@ conclusion_truth truth (Holds n) = truth n
 conclusion_truth truth (Fails n) = option_map not (truth n)
 conclusion_truth truth (Same a b) = None
 conclusion_truth truth (Differ a b) = None
+conclusion_truth truth (AtMost form) = None
+conclusion_truth truth (Zero poly) = None
 conclusion_truth truth Absurd = Some false
 
 -- the truth of a premise

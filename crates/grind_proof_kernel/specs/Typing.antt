@@ -5,10 +5,11 @@ use Rattle.grind_term_graph.specs.declared.node.Node.{Node}
 use Rattle.grind_schemes.specs.Goals.{GoalData}
 use Rattle.grind_schemes.specs.declared.lemmas.Lemmas.{Lemmas}
 use Rattle.grind_proof_kernel.specs.declared.claim.Claim.{Claim}
-use Rattle.grind_proof_kernel.specs.declared.claim.Claim.TheVariants.{Holds, Fails, Same, Differ, Absurd}
+use Rattle.grind_proof_kernel.specs.declared.claim.Claim.TheVariants.{Holds, Fails, Same, Differ, AtMost, Zero, Absurd}
 use Rattle.grind_proof_kernel.specs.declared.proof.Branch.{Branch}
 use Rattle.grind_proof_kernel.specs.declared.proof.Line.{Line}
 use Rattle.grind_proof_kernel.specs.declared.proof.Proof.{Proof}
+use Rattle.grind_differences.specs.Bounds.{opposite_form, HasOpposite}
 use Rattle.grind_proof_kernel.specs.Claims.{IsFormed, claims_at}
 use Rattle.grind_proof_kernel.specs.Rules.{Says}
 
@@ -54,26 +55,31 @@ pub record IsTypedAs (lemmas : Lemmas) (goal : GoalData) (proof : Proof) (i : �
   pub claim : IsFormed proof.terms.nodes line.claim
   pub branch : IsBranch proof.branches line.branch
   pub premises : All (Serves proof.branches proof.lines i line.branch) line.premises
-  pub rule : Says goal proof.terms.nodes (literal_of proof.branches line.branch) line.rule (claims_at proof.lines line.premises) line.claim
+  pub rule : Says lemmas goal proof.terms.nodes (literal_of proof.branches line.branch) line.rule (claims_at proof.lines line.premises) line.claim
 
 -- there is a line i, and it is typed
 abbrev pub TypedLine : Lemmas → GoalData → Proof → ℕ → Type 0
 TypedLine lemmas goal proof i = IsSomeAnd (slice_get proof.lines i) (IsTypedAs lemmas goal proof i)
 
--- a literal that a branch may assume: a formula holds, or fails
+-- a literal that a branch may assume: a formula holds, or fails, or a form that has an opposite is at most 0
 abbrev pub IsLiteral : Claim → Type 0
 IsLiteral (Holds n) = Unit {0}
 IsLiteral (Fails n) = Unit {0}
 IsLiteral (Same a b) = ⊥
 IsLiteral (Differ a b) = ⊥
+IsLiteral (AtMost form) = HasOpposite form
+IsLiteral (Zero poly) = ⊥
 IsLiteral Absurd = ⊥
 
--- the two literals are opposite: one says that a formula holds, the other that it fails
+-- the two literals are opposite: one says that a formula holds, the other that it fails; or one bounds a form, the other the
+-- opposite form
 abbrev pub AreOpposite : Claim → Claim → Type 0
 AreOpposite (Holds n) other = other ≡ Fails n
 AreOpposite (Fails n) other = other ≡ Holds n
 AreOpposite (Same a b) other = ⊥
 AreOpposite (Differ a b) other = ⊥
+AreOpposite (AtMost form) other = other ≡ AtMost (opposite_form form)
+AreOpposite (Zero poly) other = ⊥
 AreOpposite Absurd other = ⊥
 
 -- where the lines of a branch may begin: the root at the first line

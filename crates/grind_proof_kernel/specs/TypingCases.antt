@@ -1,7 +1,7 @@
 -- Worked cases: a line that is typed and one that is not, and a claim that follows under an assignment and one that
 -- does not.
 use Rattle.std.specs.Prelude.{ℕ, Bool, false, List, [], ◌∷◌, Option, Some, IsSome, refl}
-use Rattle.std.proofs.Common.{lit<, inl, inr, arith}
+use Rattle.std.proofs.Common.{lit<, inl, arith}
 use Rattle.std.proofs.lemmas.List.Elements.{All-nil, All-cons}
 use Rattle.grind_term_graph.specs.declared.head.Head.TheVariants as head
 use Rattle.grind_term_graph.specs.declared.node.Node.{Node}

@@ -2,11 +2,15 @@
 ghost use Rattle.std.specs.Prelude.{IsTrue, ◌↔◌, ◌<◌, ◌≤◌, ◌+◌, ◌≡◌, ◌==◌, ℕ, Some, length, All, find, reverse, slice_get};
 ghost use Rattle.std.specs.Option.{IsSomeAnd, option_copied};
 ghost use Rattle.grind_proof_kernel.specs.declared.proof.Branch.{Branch as BranchData};
+ghost use Rattle.grind_proof_kernel.specs.declared.claim.Claim.TheVariants.{AtMost};
+ghost use Rattle.grind_differences.specs.Bounds.{opposite_form};
 ghost use Rattle.grind_proof_kernel.specs.Claims.{IsFormed};
 ghost use Rattle.grind_proof_kernel.specs.Typing.{branch_at, parent_of, literal_of, begin_of, Reaches, Serves, IsLiteral, AreOpposite, IsPairOf, IsParent, StandsBefore, StandsBehind, last_in, IsClosed, IsWhole, IsFirst, IsSecond, IsInPair, IsListed, IsGoodBranch};
 
 use crate::claim::{Claim, is_formed};
 use crate::proof::{Branch, Line, Proof};
+use grind_differences::{has_opposite, is_opposite_form};
+use grind_linear_forms::Form;
 use grind_term_graph::TermTable;
 
 /// The branch of that number, where it is listed. The root, number 0, is not.
@@ -110,24 +114,25 @@ fn is_whole(branches: &[Branch], lines: &[Line], branch: u32, after: u32) -> boo
     stands_behind(lines, branch, after) && (is_parent(branches, branch) || is_closed(lines, branch))
 }
 
-/// Whether each line of the branch stands at that line or behind it.
+/// Whether each line of the branch stands at that line or behind it: no line before it is one of the branch.
 fn stands_behind(lines: &[Line], branch: u32, after: u32) -> bool
     ensures { IsTrue result ↔ StandsBehind lines.now branch after }
 {
-    for i in 0..lines.len() {
-        if lines[i].branch == branch && i < after as usize {
+    let end = lines.len().min(after as usize);
+    for i in 0..end {
+        if lines[i].branch == branch {
             return false;
         }
     }
     true
 }
 
-/// Whether each line of the branch stands before that line.
+/// Whether each line of the branch stands before that line: no line from it on is one of the branch.
 fn stands_before(lines: &[Line], branch: u32, after: u32) -> bool
     ensures { IsTrue result ↔ StandsBefore lines.now branch after }
 {
-    for i in 0..lines.len() {
-        if lines[i].branch == branch && i >= after as usize {
+    for i in after as usize..lines.len() {
+        if lines[i].branch == branch {
             return false;
         }
     }
@@ -252,11 +257,13 @@ fn is_literal(claim: &Claim) -> bool
         Claim::Fails(_) => true,
         Claim::Same(_, _) => false,
         Claim::Differ(_, _) => false,
+        Claim::AtMost(form) => has_opposite(form),
+        Claim::Zero(_) => false,
         Claim::Absurd => false,
     }
 }
 
-/// Whether one of the claims says that a formula holds, and the other that it fails.
+/// Whether one of the claims says that a formula holds and the other that it fails, or the other bounds the opposite form.
 fn are_opposite(one: &Claim, other: &Claim) -> bool
     ensures { IsTrue result ↔ AreOpposite one.now other.now }
 {
@@ -265,6 +272,18 @@ fn are_opposite(one: &Claim, other: &Claim) -> bool
         Claim::Fails(node) => matches!(other, Claim::Holds(holding) if holding == node),
         Claim::Same(_, _) => false,
         Claim::Differ(_, _) => false,
+        Claim::AtMost(form) => bounds_opposite(form, other),
+        Claim::Zero(_) => false,
         Claim::Absurd => false,
     }
+}
+
+/// Whether the claim bounds the form that is opposite to this one.
+fn bounds_opposite(form: &Form, claim: &Claim) -> bool
+    ensures { IsTrue result ↔ (claim.now ≡ AtMost (opposite_form form.now)) }
+{
+    let Claim::AtMost(other) = claim else {
+        return false;
+    };
+    is_opposite_form(form, other)
 }

@@ -53,7 +53,7 @@ pub fn check_line(
         return Ok(false);
     }
     let literal = literal_of(branches, line.branch);
-    let said = says(alloc, goal, &proof.terms, literal, lines, line)?;
+    let said = says(alloc, lemmas, goal, &proof.terms, literal, lines, line)?;
     Ok(said)
 }
 

@@ -1,8 +1,12 @@
 //! What a line claims.
 ghost use Rattle.std.specs.Prelude.{IsTrue, ◌↔◌, ◌<◌, length, IsSome, ◌≡◌, Some};
 ghost use Rattle.grind_term_graph.specs.Terms.{prop, sort_at};
+ghost use Rattle.grind_linear_forms.specs.Naming.{NamesNumbers};
 ghost use Rattle.grind_proof_kernel.specs.Claims.{IsFormed};
 
+use grind_differences::{is_number, multiplies_numbers};
+use grind_linear_forms::Form;
+use grind_polynomials::Poly;
 use grind_term_graph::{NodeId, SortId, TermTable};
 
 /// A claim about nodes.
@@ -16,6 +20,10 @@ pub enum Claim {
     Same(NodeId, NodeId),
     /// The two terms are different.
     Differ(NodeId, NodeId),
+    /// The linear form is at most 0.
+    AtMost(Form),
+    /// The polynomial is 0.
+    Zero(Poly),
     /// A contradiction.
     Absurd,
 }
@@ -29,6 +37,8 @@ pub fn is_formed(terms: &TermTable, claim: &Claim) -> bool
         Claim::Fails(node) => is_formula(terms, *node),
         Claim::Same(left, right) => are_of_one_sort(terms, *left, *right),
         Claim::Differ(left, right) => are_of_one_sort(terms, *left, *right),
+        Claim::AtMost(form) => names_numbers(terms, form),
+        Claim::Zero(poly) => multiplies_numbers(terms, poly),
         Claim::Absurd => true,
     }
 }
@@ -38,6 +48,13 @@ pub(crate) fn is_formula(terms: &TermTable, node: NodeId) -> bool
     ensures { IsTrue result ↔ (sort_at terms.now.nodes node ≡ Some prop) }
 {
     node.number() < terms.len() && terms.sort(node) == SortId::PROP
+}
+
+/// Whether each node of the form is a whole number.
+fn names_numbers(terms: &TermTable, form: &Form) -> bool
+    ensures { IsTrue result ↔ NamesNumbers terms.now.nodes form.now }
+{
+    form.parts().iter().all(|part| is_number(terms, part.node))
 }
 
 fn are_of_one_sort(terms: &TermTable, left: NodeId, right: NodeId) -> bool

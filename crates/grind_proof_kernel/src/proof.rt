@@ -1,6 +1,7 @@
 //! Proofs: their lines and their branches.
 use crate::claim::Claim;
 use grind_outside::List;
+use grind_polynomials::Poly;
 use grind_term_graph::{NodeId, TermTable};
 
 /// How a line follows from its premises.
@@ -10,6 +11,13 @@ pub enum Rule {
     Hyp(u32),
     /// The conclusion of the goal fails, which a proof by contradiction assumes.
     Negated,
+    /// What a theorem says of these nodes.
+    Inst {
+        /// The number of the theorem, from 0.
+        theorem: u32,
+        /// The nodes that stand for its variables.
+        subst: List<NodeId>,
+    },
     /// The literal of the line's branch.
     Branch,
     /// A term equals itself.
@@ -30,8 +38,36 @@ pub enum Rule {
     Untruth,
     /// What the truth tables of the connectives give, from these free nodes.
     Table(List<NodeId>),
-    /// Terms that equal two different ones are different.
+    /// A comparison that holds, or fails, bounds the difference of its sides.
+    Read,
+    /// A bound makes a comparison hold, or fail.
+    Write,
+    /// Two whole numbers that are equal have a difference that is at most 0.
+    Line,
+    /// The polynomial of the difference of two whole numbers that are equal is 0.
+    Poly,
+    /// Bounds, each so often, added and then divided.
+    Combine {
+        /// By what the sum is divided.
+        divisor: i128,
+        /// How often each premise is taken.
+        factors: List<i128>,
+    },
+    /// Two whole numbers are equal where neither is over the other.
+    Pinch,
+    /// Two whole numbers that are different keep a distance.
+    Strict,
+    /// Terms that something keeps apart are different.
     Apart,
+    /// Polynomials that are 0, each times a factor, added and then divided.
+    Ideal {
+        /// By what the sum is divided.
+        divisor: i128,
+        /// The factor of each premise.
+        factors: List<Poly>,
+    },
+    /// Two whole numbers are equal where the polynomial of their difference is 0.
+    Equal,
     /// Claims that contradict each other.
     Clash,
 }

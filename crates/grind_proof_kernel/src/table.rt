@@ -117,7 +117,11 @@ fn bound_of_claim(claim: &Claim, bound: usize) -> usize
     match claim {
         Claim::Holds(node) => above_node(*node, bound),
         Claim::Fails(node) => above_node(*node, bound),
-        Claim::Same(_, _) | Claim::Differ(_, _) | Claim::Absurd => bound,
+        Claim::Same(_, _)
+        | Claim::Differ(_, _)
+        | Claim::AtMost(_)
+        | Claim::Zero(_)
+        | Claim::Absurd => bound,
     }
 }
 

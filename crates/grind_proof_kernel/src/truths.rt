@@ -193,7 +193,11 @@ fn literal_truth(known: &[Option<bool>], claim: &Claim) -> Option<bool>
     match claim {
         Claim::Holds(node) => truth_at(known, *node),
         Claim::Fails(node) => negated(truth_at(known, *node)),
-        Claim::Same(_, _) | Claim::Differ(_, _) | Claim::Absurd => None,
+        Claim::Same(_, _)
+        | Claim::Differ(_, _)
+        | Claim::AtMost(_)
+        | Claim::Zero(_)
+        | Claim::Absurd => None,
     }
 }
 
@@ -204,7 +208,7 @@ pub fn conclusion_truth(known: &[Option<bool>], claim: &Claim) -> Option<bool>
     match claim {
         Claim::Holds(node) => truth_at(known, *node),
         Claim::Fails(node) => negated(truth_at(known, *node)),
-        Claim::Same(_, _) | Claim::Differ(_, _) => None,
+        Claim::Same(_, _) | Claim::Differ(_, _) | Claim::AtMost(_) | Claim::Zero(_) => None,
         Claim::Absurd => Some(false),
     }
 }

@@ -1,7 +1,11 @@
+pub mod FactorLoops
+pub mod FormSpelling
 pub mod FunctionNames
 pub mod NamedNodes
+pub mod NumberSpelling
 pub mod OneSpelling
 pub mod PrintedLines
 pub mod ReportParts
+pub mod RuleShapes
 pub mod SolidWords
 pub mod Spelling

@@ -1,94 +1,26 @@
 -- A report that fits is read back from its lines.
-use Rattle.std.proofs.Common.{◌≡◌, ℕ, suc, ◌+◌, ◌-◌, ◌<◌, cond, List, [], ◌∷◌, ◌++◌, length, map, take, All, decimal, ℤ, pos, negsuc, FitsSigned, refl, sym, subst, ap, ◌∙◌, append_assoc, arith}
-use Rattle.std.specs.Prelude.{codes, bytes_eq, nat_eq}
-use Rattle.std.specs.Int.{w128}
-use Rattle.std.specs.Fmt.{signed_decimal}
+use Rattle.std.proofs.Common.{◌≡◌, ℕ, ◌+◌, Bool, true, false, cond, List, [], ◌∷◌, ◌++◌, length, map, All, decimal, ℤ, refl, sym, ap, ◌∙◌, append_assoc, arith}
+use Rattle.std.specs.Prelude.{codes, bytes_eq}
 use Rattle.std.specs.List.{AllByRecursion, flat_map}
-use Rattle.std.specs.Char.{digit_value}
-use Rattle.std.specs.Str.Parse.{AllDigits, digits_value}
-use Rattle.std.proofs.lemmas.Fmt.{decimal_is_IsNumeral, decimal_is_IsNumeral_wide, decimal_injective}
+use Rattle.std.proofs.lemmas.List.{append-nil}
+use Rattle.std.proofs.lemmas.Slice.Eq.{bytes_eq-Decides}
 use Rattle.std.proofs.lemmas.List.Elements.{recursion_from_All}
+use Rattle.grind_linear_forms.specs.Forms.{FormData}
+use Rattle.grind_polynomials.specs.declared.poly.Term.{Term}
 use Rattle.grind_proof_kernel.specs.declared.claim.Claim.{Claim}
 use Rattle.grind_proof_kernel.specs.declared.claim.Claim.TheVariants as claims
 use Rattle.grind_proof_kernel.specs.declared.proof.Branch.{Branch}
 use Rattle.grind_proof_kernel.specs.declared.proof.Line.{Line}
 use Rattle.grind_proof_kernel.specs.declared.proof.Rule.{Rule}
 use Rattle.grind_proof_kernel.specs.declared.proof.Rule.TheVariants as rules_of
-use Rattle.grind_report.specs.Report.{RawTerm, RawProof, Block, Report, True, False, Const, Fun, Int, Not, And, Or, Implies, Eq, Le, Add, Neg, Mul, Closed, Unexplored, term_words, rule_words, claim_words, branch_words, line_words, indexed_lines, counted_lines, block_page, header_words, end_words, report_page, IsShort, TermFits, RuleFits, ClaimFits, BranchFits, LineFits, ProofFits, BlockFits, ReportFits, ReportOf}
+use Rattle.grind_report.specs.Report.{RawTerm, RawProof, Block, Report, True, False, Const, Fun, Int, Not, And, Or, Implies, Eq, Le, Add, Neg, Mul, Closed, Unexplored, term_words, poly_words, rule_words, premise_words, claim_words, branch_words, line_words, indexed_lines, counted_lines, block_page, header_words, end_words, report_page, IsShort, IsWide, TermFits, PolyFits, RuleFits, FactorsFit, TakesPremises, ClaimFits, BranchFits, LineFits, ProofFits, BlockFits, ReportFits, ReportOf}
+use Rattle.grind_report.proofs.NumberSpelling.{first_is, rest_is, cancel, first_of, rest_of, number, number_back, numbers_back, same_number, no_colon, integer, integer_back, one_of, other_of, both_back, first_items, first_items-back}
+use Rattle.grind_report.proofs.FormSpelling.{form_from, form_back, poly_from, poly_back, same_combined, same_gathered}
+use Rattle.grind_report.proofs.RuleShapes.{bare, kind, Shape, plain, combined, gathered, shape, same_kind, words_kept, not_zero_and_one, not_zero_and_two, not_one_and_two}
 use Rattle.grind_report.proofs.Spelling.{page_of, page_of-spelled}
-use Rattle.grind_report.proofs.SolidWords.{digit-ne, report_solid}
-
--- ---- lists
-
-pub first_is : {A : Type 0} (x y : A) (xs ys : List A) → x ∷ xs ≡ y ∷ ys → x ≡ y
-first_is x y xs ys e = cc
-
-pub rest_is : {A : Type 0} (x y : A) (xs ys : List A) → x ∷ xs ≡ y ∷ ys → xs ≡ ys
-rest_is x y xs ys e = cc
-
-cancel : {A : Type 0} (xs ys zs : List A) → xs ++ ys ≡ xs ++ zs → ys ≡ zs
-cancel [] ys zs e = e
-cancel (x ∷ xs) ys zs e = cancel xs ys zs (rest_is x x (xs ++ ys) (xs ++ zs) e)
-
--- the first word of some
-abbrev first_of : List (List ℕ) → List ℕ
-first_of [] = []
-first_of (word ∷ words) = word
-
-abbrev rest_of : List (List ℕ) → List (List ℕ)
-rest_of [] = []
-rest_of (word ∷ words) = words
-
--- ---- numbers
-
-abbrev number : List ℕ → ℕ
-number word = digits_value 10 word
-
-number_back : (n : ℕ) → IsShort n → number (decimal n) ≡ n
-number_back n short = (decimal_is_IsNumeral n (omega arith)).1
-
-numbers_back : (ns : List ℕ) → AllByRecursion IsShort ns → map number (map decimal ns) ≡ ns
-numbers_back [] h = refl
-numbers_back (n ∷ ns) h = let one = number_back n h.0 in let more = numbers_back ns h.1 in cc
-
-same_number : (m n : ℕ) → IsShort m → IsShort n → decimal m ≡ decimal n → m ≡ n
-same_number m n hm hn e = decimal_injective m n (omega arith) (omega arith) e
-
-no_colon : (n : ℕ) → IsShort n → codes ":" ≡ decimal n → ⊥
-no_colon n short e =
-    let digits : AllDigits 10 (codes ":") = subst (λ (ds : List ℕ). AllDigits 10 ds) (sym e) (decimal_is_IsNumeral n (omega arith)).0.1 in
-    let low : digit_value 58 < 10 = digits.0 in omega (arith, low)
-
--- ---- whole numbers
-
-integer : List ℕ → ℤ
-integer [] = pos 0
-integer (b ∷ ds) = cond (nat_eq b 45) (negsuc (digits_value 10 ds - 1)) (pos (digits_value 10 (b ∷ ds)))
-
-integer-digits : (ds : List ℕ) → AllDigits 10 ds → integer ds ≡ pos (digits_value 10 ds)
-unfolding integer
-integer-digits [] h = refl
-integer-digits (b ∷ ds) h = rw (digit-ne b 45 h.0 (λ x. omega (arith, x))) refl
-
-integer_back : (z : ℤ) → FitsSigned w128 z → integer (signed_decimal z) ≡ z
-unfolding integer
-integer_back (pos n) fits =
-    let small = fits.sfits in
-    let numeral = decimal_is_IsNumeral_wide n (omega arith) in
-    integer-digits (decimal n) numeral.0.1 ∙ ap pos numeral.1
-integer_back (negsuc n) fits =
-    let small = fits.sfits in
-    let numeral = decimal_is_IsNumeral_wide (suc n) (omega arith) in
-    let same : digits_value 10 (decimal (suc n)) - 1 ≡ n = omega (arith, numeral.1) in
-    ap (λ (k : ℕ). negsuc k) same
+use Rattle.grind_report.proofs.SolidWords.{report_solid}
 
 -- ---- terms
-
-abbrev one_of : List (List ℕ) → ℕ
-one_of words = number (first_of (rest_of words))
-
-abbrev other_of : List (List ℕ) → ℕ
-other_of words = number (first_of (rest_of (rest_of words)))
 
 term_from : List (List ℕ) → RawTerm
 term_from words =
@@ -100,9 +32,6 @@ term_from words =
     (cond (bytes_eq (first_of words) (codes "or")) (Or (one_of words) (other_of words)) (cond (bytes_eq (first_of words) (codes "implies")) (Implies (one_of words) (other_of words))
     (cond (bytes_eq (first_of words) (codes "eq")) (Eq (one_of words) (other_of words)) (cond (bytes_eq (first_of words) (codes "le")) (Le (one_of words) (other_of words))
     (cond (bytes_eq (first_of words) (codes "add")) (Add (one_of words) (other_of words)) (cond (bytes_eq (first_of words) (codes "neg")) (Neg (one_of words)) (Mul (one_of words) (other_of words))))))))))))))
-
-both_back : {A : Type 0} (f : ℕ → ℕ → A) (a b : ℕ) → IsShort a × IsShort b → f (number (decimal a)) (number (decimal b)) ≡ f a b
-both_back f a b fits = ap (λ (x : ℕ). f x (number (decimal b))) (number_back a fits.0) ∙ ap (λ (x : ℕ). f a x) (number_back b fits.1)
 
 term_back : (t : RawTerm) → TermFits t → term_from (term_words t) ≡ t
 unfolding term_from
@@ -126,15 +55,95 @@ same_term s t hs ht e = sym (term_back s hs) ∙ ap term_from e ∙ term_back t 
 
 -- ---- lines of a proof
 
--- so many first items
-first_items : ℕ → List (List ℕ) → List ℕ
-first_items count words = map number (take count words)
+-- the numbers before a colon
+before_colon : List (List ℕ) → List ℕ
+before_colon [] = []
+before_colon (word ∷ words) = cond (bytes_eq word (codes ":")) [] (number word ∷ before_colon words)
 
-first_items-back : (ns : List ℕ) (words : List (List ℕ)) → AllByRecursion IsShort ns → first_items (length ns) (map decimal ns ++ words) ≡ ns
-unfolding first_items
-first_items-back [] words h = refl
-first_items-back (n ∷ ns) words h = let one = number_back n h.0 in let more = first_items-back ns words h.1 in ap (λ (x : ℕ). x ∷ first_items (length ns) (map decimal ns ++ words)) one ∙ ap (λ (rest : List ℕ). n ∷ rest) more
+is_no_colon : (n : ℕ) → IsShort n → (b : Bool) → bytes_eq (decimal n) (codes ":") ≡ b → b ≡ false
+is_no_colon n short false e = refl
+is_no_colon n short true e = absurd (no_colon n short (sym ((bytes_eq-Decides (decimal n) (codes ":")).0 e)))
 
+before_colon-back : (ns : List ℕ) (words : List (List ℕ)) → AllByRecursion IsShort ns → before_colon (map decimal ns ++ codes ":" ∷ words) ≡ ns
+unfolding before_colon
+before_colon-back [] words h = refl
+before_colon-back (n ∷ ns) words h =
+    let other = is_no_colon n h.0 (bytes_eq (decimal n) (codes ":")) refl in
+    let rest = before_colon (map decimal ns ++ codes ":" ∷ words) in
+    ap (λ (b : Bool). cond b [] (number (decimal n) ∷ rest)) other
+    ∙ ap (λ (x : ℕ). x ∷ rest) (number_back n h.0) ∙ ap (λ (others : List ℕ). n ∷ others) (before_colon-back ns words h.1)
+
+-- what stands behind the words of a rule: a colon where the rule lists nodes without their count
+abbrev Follows : Rule → List (List ℕ) → Type 0
+Follows (rules_of.Inst t ids) words = (more : List (List ℕ)) × (words ≡ codes ":" ∷ more)
+Follows (rules_of.Hyp i) words = Unit {0}
+Follows rules_of.Negated words = Unit {0}
+Follows rules_of.Branch words = Unit {0}
+Follows rules_of.Refl words = Unit {0}
+Follows rules_of.Sym words = Unit {0}
+Follows rules_of.Trans words = Unit {0}
+Follows rules_of.Cong words = Unit {0}
+Follows rules_of.Eq words = Unit {0}
+Follows rules_of.Back words = Unit {0}
+Follows rules_of.Truth words = Unit {0}
+Follows rules_of.Untruth words = Unit {0}
+Follows (rules_of.Table free) words = Unit {0}
+Follows rules_of.Read words = Unit {0}
+Follows rules_of.Write words = Unit {0}
+Follows rules_of.Line words = Unit {0}
+Follows rules_of.Poly words = Unit {0}
+Follows (rules_of.Combine divisor factors) words = Unit {0}
+Follows rules_of.Pinch words = Unit {0}
+Follows rules_of.Strict words = Unit {0}
+Follows (rules_of.Ideal divisor factors) words = Unit {0}
+Follows rules_of.Equal words = Unit {0}
+Follows rules_of.Apart words = Unit {0}
+Follows rules_of.Clash words = Unit {0}
+
+-- behind no premises stands a colon
+colon_first : (premises : List ℕ) (words : List (List ℕ)) → length premises ≡ 0
+    → (more : List (List ℕ)) × (map decimal premises ++ codes ":" ∷ words ≡ codes ":" ∷ more)
+colon_first [] words e = (words, refl)
+colon_first (p ∷ premises) words e = absurd (omega (arith, e))
+
+line_follows : (rule : Rule) (premises : List ℕ) (words : List (List ℕ)) → TakesPremises rule (length premises)
+    → Follows rule (premise_words rule premises ++ codes ":" ∷ words)
+line_follows (rules_of.Inst t ids) premises words count = colon_first premises words count
+line_follows (rules_of.Hyp i) premises words count = tt
+line_follows rules_of.Negated premises words count = tt
+line_follows rules_of.Branch premises words count = tt
+line_follows rules_of.Refl premises words count = tt
+line_follows rules_of.Sym premises words count = tt
+line_follows rules_of.Trans premises words count = tt
+line_follows rules_of.Cong premises words count = tt
+line_follows rules_of.Eq premises words count = tt
+line_follows rules_of.Back premises words count = tt
+line_follows rules_of.Truth premises words count = tt
+line_follows rules_of.Untruth premises words count = tt
+line_follows (rules_of.Table free) premises words count = tt
+line_follows rules_of.Read premises words count = tt
+line_follows rules_of.Write premises words count = tt
+line_follows rules_of.Line premises words count = tt
+line_follows rules_of.Poly premises words count = tt
+line_follows (rules_of.Combine divisor factors) premises words count = tt
+line_follows rules_of.Pinch premises words count = tt
+line_follows rules_of.Strict premises words count = tt
+line_follows (rules_of.Ideal divisor factors) premises words count = tt
+line_follows rules_of.Equal premises words count = tt
+line_follows rules_of.Apart premises words count = tt
+line_follows rules_of.Clash premises words count = tt
+
+-- the rule over whole numbers that these words begin with
+arithmetic_from : List (List ℕ) → Rule
+arithmetic_from words =
+    cond (bytes_eq (first_of words) (codes "read")) rules_of.Read (cond (bytes_eq (first_of words) (codes "write")) rules_of.Write
+    (cond (bytes_eq (first_of words) (codes "line")) rules_of.Line (cond (bytes_eq (first_of words) (codes "poly")) rules_of.Poly
+    (cond (bytes_eq (first_of words) (codes "combine")) (rules_of.Combine (integer (first_of (rest_of words))) [])
+    (cond (bytes_eq (first_of words) (codes "pinch")) rules_of.Pinch (cond (bytes_eq (first_of words) (codes "strict")) rules_of.Strict
+    (cond (bytes_eq (first_of words) (codes "ideal")) (rules_of.Ideal (integer (first_of (rest_of words))) [])
+    (cond (bytes_eq (first_of words) (codes "equal")) rules_of.Equal rules_of.Clash))))))))
+
+-- the rule that these words begin with, without its factors
 rule_from : List (List ℕ) → Rule
 rule_from words =
     cond (bytes_eq (first_of words) (codes "hyp")) (rules_of.Hyp (one_of words)) (cond (bytes_eq (first_of words) (codes "negated")) rules_of.Negated
@@ -144,31 +153,46 @@ rule_from words =
     (cond (bytes_eq (first_of words) (codes "back")) rules_of.Back (cond (bytes_eq (first_of words) (codes "truth")) rules_of.Truth
     (cond (bytes_eq (first_of words) (codes "untruth")) rules_of.Untruth
     (cond (bytes_eq (first_of words) (codes "table")) (rules_of.Table (first_items (one_of words) (rest_of (rest_of words))))
-    (cond (bytes_eq (first_of words) (codes "apart")) rules_of.Apart rules_of.Clash))))))))))))
+    (cond (bytes_eq (first_of words) (codes "inst")) (rules_of.Inst (one_of words) (before_colon (rest_of (rest_of words))))
+    (cond (bytes_eq (first_of words) (codes "apart")) rules_of.Apart (arithmetic_from words))))))))))))))
 
-rule_back : (rule : Rule) (words : List (List ℕ)) → RuleFits rule → rule_from (rule_words rule ++ words) ≡ rule
-unfolding rule_from
-rule_back (rules_of.Hyp i) words fits = ap (λ (x : ℕ). rules_of.Hyp x) (number_back i fits)
-rule_back rules_of.Negated words fits = refl
-rule_back rules_of.Branch words fits = refl
-rule_back rules_of.Refl words fits = refl
-rule_back rules_of.Sym words fits = refl
-rule_back rules_of.Trans words fits = refl
-rule_back rules_of.Cong words fits = refl
-rule_back rules_of.Eq words fits = refl
-rule_back rules_of.Back words fits = refl
-rule_back rules_of.Truth words fits = refl
-rule_back rules_of.Untruth words fits = refl
-rule_back (rules_of.Table free) words fits =
+rule_back : (rule : Rule) (words : List (List ℕ)) → RuleFits rule → Follows rule words → rule_from (rule_words rule ++ words) ≡ bare rule
+unfolding rule_from arithmetic_from
+rule_back (rules_of.Hyp i) words fits behind = ap (λ (x : ℕ). rules_of.Hyp x) (number_back i fits)
+rule_back rules_of.Negated words fits behind = refl
+rule_back (rules_of.Inst t ids) words fits behind =
+    ap (λ (ws : List (List ℕ)). rules_of.Inst (number (decimal t)) (before_colon (map decimal ids ++ ws))) behind.1
+    ∙ ap (λ (x : ℕ). rules_of.Inst x (before_colon (map decimal ids ++ codes ":" ∷ behind.0))) (number_back t fits.0)
+    ∙ ap (λ (ns : List ℕ). rules_of.Inst t ns) (before_colon-back ids behind.0 (recursion_from_All IsShort ids fits.1))
+rule_back rules_of.Branch words fits behind = refl
+rule_back rules_of.Refl words fits behind = refl
+rule_back rules_of.Sym words fits behind = refl
+rule_back rules_of.Trans words fits behind = refl
+rule_back rules_of.Cong words fits behind = refl
+rule_back rules_of.Eq words fits behind = refl
+rule_back rules_of.Back words fits behind = refl
+rule_back rules_of.Truth words fits behind = refl
+rule_back rules_of.Untruth words fits behind = refl
+rule_back (rules_of.Table free) words fits behind =
     ap (λ (k : ℕ). rules_of.Table (first_items k (map decimal free ++ words))) (number_back (length free) fits.0)
     ∙ ap (λ (ns : List ℕ). rules_of.Table ns) (first_items-back free words (recursion_from_All IsShort free fits.1))
-rule_back rules_of.Apart words fits = refl
-rule_back rules_of.Clash words fits = refl
+rule_back rules_of.Read words fits behind = refl
+rule_back rules_of.Write words fits behind = refl
+rule_back rules_of.Line words fits behind = refl
+rule_back rules_of.Poly words fits behind = refl
+rule_back (rules_of.Combine divisor factors) words fits behind = ap (λ (z : ℤ). rules_of.Combine z []) (integer_back divisor fits)
+rule_back rules_of.Pinch words fits behind = refl
+rule_back rules_of.Strict words fits behind = refl
+rule_back (rules_of.Ideal divisor factors) words fits behind = ap (λ (z : ℤ). rules_of.Ideal z []) (integer_back divisor fits)
+rule_back rules_of.Equal words fits behind = refl
+rule_back rules_of.Apart words fits behind = refl
+rule_back rules_of.Clash words fits behind = refl
 
-same_rule : (a b : Rule) (xs ys : List (List ℕ)) → RuleFits a → RuleFits b → rule_words a ++ xs ≡ rule_words b ++ ys → (a ≡ b) × (xs ≡ ys)
-same_rule a b xs ys ha hb e =
-    let inject : a ≡ b = sym (rule_back a xs ha) ∙ ap rule_from e ∙ rule_back b ys hb in
-    let moved : rule_words a ++ xs ≡ rule_words a ++ ys = e ∙ ap (λ (r : Rule). rule_words r ++ ys) (sym inject) in
+same_rule : (a b : Rule) (xs ys : List (List ℕ)) → RuleFits a → RuleFits b → Follows a xs → Follows b ys → rule_words a ++ xs ≡ rule_words b ++ ys → (bare a ≡ bare b) × (xs ≡ ys)
+same_rule a b xs ys ha hb behind_a behind_b e =
+    let inject : bare a ≡ bare b = sym (rule_back a xs ha behind_a) ∙ ap rule_from e ∙ rule_back b ys hb behind_b in
+    let words : rule_words b ≡ rule_words a = sym (words_kept (shape b)) ∙ ap rule_words (sym inject) ∙ words_kept (shape a) in
+    let moved : rule_words a ++ xs ≡ rule_words a ++ ys = e ∙ ap (λ (ws : List (List ℕ)). ws ++ ys) words in
     (inject, cancel (rule_words a) xs ys moved)
 
 claim_from : List (List ℕ) → Claim
@@ -176,7 +200,9 @@ claim_from words =
     cond (bytes_eq (first_of words) (codes "holds")) (claims.Holds (number (first_of (rest_of words))))
     (cond (bytes_eq (first_of words) (codes "fails")) (claims.Fails (number (first_of (rest_of words))))
     (cond (bytes_eq (first_of words) (codes "same")) (claims.Same (one_of words) (other_of words))
-    (cond (bytes_eq (first_of words) (codes "differ")) (claims.Differ (one_of words) (other_of words)) claims.Absurd)))
+    (cond (bytes_eq (first_of words) (codes "differ")) (claims.Differ (one_of words) (other_of words))
+    (cond (bytes_eq (first_of words) (codes "atmost")) (claims.AtMost (form_from (rest_of words)))
+    (cond (bytes_eq (first_of words) (codes "zero")) (claims.Zero (poly_from (rest_of words))) claims.Absurd)))))
 
 claim_back : (claim : Claim) → ClaimFits claim → claim_from (claim_words claim) ≡ claim
 unfolding claim_from
@@ -184,6 +210,10 @@ claim_back (claims.Holds n) fits = ap (λ (x : ℕ). claims.Holds x) (number_bac
 claim_back (claims.Fails n) fits = ap (λ (x : ℕ). claims.Fails x) (number_back n fits)
 claim_back (claims.Same a b) fits = both_back (λ (x y : ℕ). claims.Same x y) a b fits
 claim_back (claims.Differ a b) fits = both_back (λ (x y : ℕ). claims.Differ x y) a b fits
+claim_back (claims.AtMost form) fits = ap (λ (f : FormData). claims.AtMost f) (form_back form fits)
+claim_back (claims.Zero poly) fits =
+    ap (λ (words : List (List ℕ)). claims.Zero (poly_from words)) (sym (append-nil (poly_words poly)))
+    ∙ ap (λ (p : List Term). claims.Zero p) (poly_back poly [] fits)
 claim_back claims.Absurd fits = refl
 
 same_claim : (a b : Claim) → ClaimFits a → ClaimFits b → claim_words a ≡ claim_words b → a ≡ b
@@ -203,6 +233,39 @@ same_premises (m ∷ ms) (n ∷ ns) xs ys hm hn e =
     let first : ms ≡ ns = more.0 in
     (cc, more.1)
 
+abbrev AreOneLine : Rule → Rule → List ℕ → List ℕ → List (List ℕ) → List (List ℕ) → Type 0
+AreOneLine a b ps qs xs ys = (a ≡ b) × (ps ≡ qs) × (xs ≡ ys)
+
+-- the factors and premises of a rule before a colon, and what is behind it
+same_whole : {a b : Rule} → Shape a → Shape b → (ps qs : List ℕ) (xs ys : List (List ℕ)) → FactorsFit a → FactorsFit b
+    → TakesPremises a (length ps) → TakesPremises b (length qs) → AllByRecursion IsShort ps → AllByRecursion IsShort qs → bare a ≡ bare b
+    → premise_words a ps ++ codes ":" ∷ xs ≡ premise_words b qs ++ codes ":" ∷ ys → AreOneLine a b ps qs xs ys
+same_whole (plain one zero_a words_a) (plain two zero_b words_b) ps qs xs ys fa fb ta tb ha hb rule e =
+    let moved : map decimal ps ++ codes ":" ∷ xs ≡ map decimal qs ++ codes ":" ∷ ys =
+    ap (λ (ws : List (List ℕ)). ws ++ codes ":" ∷ xs) (sym (words_a ps)) ∙ e ∙ ap (λ (ws : List (List ℕ)). ws ++ codes ":" ∷ ys) (words_b qs) in
+    let same = same_premises ps qs xs ys ha hb moved in
+    (sym one ∙ rule ∙ two, same.0, same.1)
+same_whole (combined m lefts) (combined n rights) ps qs xs ys fa fb ta tb ha hb rule e =
+    let same = same_combined lefts ps rights qs xs ys ta tb (recursion_from_All IsWide lefts fa) (recursion_from_All IsWide rights fb) ha hb e in
+    let divisor : m ≡ n = cc rule in
+    (ap (λ (z : ℤ). rules_of.Combine z lefts) divisor ∙ ap (λ (fs : List ℤ). rules_of.Combine n fs) same.0, same.1, same.2)
+same_whole (gathered m lefts) (gathered n rights) ps qs xs ys fa fb ta tb ha hb rule e =
+    let same = same_gathered lefts ps rights qs xs ys ta tb (recursion_from_All PolyFits lefts fa) (recursion_from_All PolyFits rights fb) ha hb e in
+    let divisor : m ≡ n = cc rule in
+    (ap (λ (z : ℤ). rules_of.Ideal z lefts) divisor ∙ ap (λ (fs : List (List Term)). rules_of.Ideal n fs) same.0, same.1, same.2)
+same_whole {a} {b} (plain one zero_a words_a) (combined n rights) ps qs xs ys fa fb ta tb ha hb rule e =
+    absurd (not_zero_and_one (kind a) (kind b) (same_kind (plain one zero_a words_a) (combined n rights) rule) zero_a refl)
+same_whole {a} {b} (plain one zero_a words_a) (gathered n rights) ps qs xs ys fa fb ta tb ha hb rule e =
+    absurd (not_zero_and_two (kind a) (kind b) (same_kind (plain one zero_a words_a) (gathered n rights) rule) zero_a refl)
+same_whole {a} {b} (combined m lefts) (plain two zero_b words_b) ps qs xs ys fa fb ta tb ha hb rule e =
+    absurd (not_zero_and_one (kind b) (kind a) (sym (same_kind (combined m lefts) (plain two zero_b words_b) rule)) zero_b refl)
+same_whole {a} {b} (gathered m lefts) (plain two zero_b words_b) ps qs xs ys fa fb ta tb ha hb rule e =
+    absurd (not_zero_and_two (kind b) (kind a) (sym (same_kind (gathered m lefts) (plain two zero_b words_b) rule)) zero_b refl)
+same_whole {a} {b} (combined m lefts) (gathered n rights) ps qs xs ys fa fb ta tb ha hb rule e =
+    absurd (not_one_and_two (kind a) (kind b) (same_kind (combined m lefts) (gathered n rights) rule) refl refl)
+same_whole {a} {b} (gathered m lefts) (combined n rights) ps qs xs ys fa fb ta tb ha hb rule e =
+    absurd (not_one_and_two (kind b) (kind a) (sym (same_kind (gathered m lefts) (combined n rights) rule)) refl refl)
+
 abbrev line_of_parts : ℕ → Rule → List ℕ → Claim → Line
 line_of_parts branch rule premises claim = record { branch = branch; rule = rule; premises = premises; claim = claim }
 
@@ -212,16 +275,19 @@ same_parts i j r s ps qs c d e1 e2 e3 e4 =
 
 same_line : (a b : Line) → LineFits a → LineFits b → line_words a ≡ line_words b → a ≡ b
 same_line a b ha hb e =
-    let tail_a = rule_words a.rule ++ (map decimal a.premises ++ codes ":" ∷ claim_words a.claim) in
-    let tail_b = rule_words b.rule ++ (map decimal b.premises ++ codes ":" ∷ claim_words b.claim) in
+    let behind_a = premise_words a.rule a.premises ++ codes ":" ∷ claim_words a.claim in
+    let behind_b = premise_words b.rule b.premises ++ codes ":" ∷ claim_words b.claim in
+    let tail_a = rule_words a.rule ++ behind_a in
+    let tail_b = rule_words b.rule ++ behind_b in
     let branch : a.branch ≡ b.branch = same_number a.branch b.branch ha.branch hb.branch (first_is (decimal a.branch) (decimal b.branch) tail_a tail_b e) in
-    let rule = same_rule a.rule b.rule (map decimal a.premises ++ codes ":" ∷ claim_words a.claim) (map decimal b.premises ++ codes ":" ∷ claim_words b.claim) ha.rule hb.rule
+    let rule = same_rule a.rule b.rule behind_a behind_b ha.rule hb.rule
+    (line_follows a.rule a.premises (claim_words a.claim) ha.count) (line_follows b.rule b.premises (claim_words b.claim) hb.count)
     (rest_is (decimal a.branch) (decimal b.branch) tail_a tail_b e) in
-    let premises = same_premises a.premises b.premises (claim_words a.claim) (claim_words b.claim)
-    (recursion_from_All IsShort a.premises ha.premises) (recursion_from_All IsShort b.premises hb.premises) rule.1 in
-    let claim : a.claim ≡ b.claim = same_claim a.claim b.claim ha.claim hb.claim premises.1 in
-    let e1 : a.rule ≡ b.rule = rule.0 in
-    let e2 : a.premises ≡ b.premises = premises.0 in
+    let whole = same_whole (shape a.rule) (shape b.rule) a.premises b.premises (claim_words a.claim) (claim_words b.claim) ha.factors hb.factors ha.count hb.count
+    (recursion_from_All IsShort a.premises ha.premises) (recursion_from_All IsShort b.premises hb.premises) rule.0 rule.1 in
+    let claim : a.claim ≡ b.claim = same_claim a.claim b.claim ha.claim hb.claim whole.2 in
+    let e1 : a.rule ≡ b.rule = whole.0 in
+    let e2 : a.premises ≡ b.premises = whole.1 in
     same_parts a.branch b.branch a.rule b.rule a.premises b.premises a.claim b.claim branch e1 e2 claim
 
 -- ---- branches

@@ -1,7 +1,6 @@
 -- The words of a report that fits hold no space and no line feed.
-use Rattle.std.proofs.Common.{◌≡◌, ◌≢◌, ℕ, suc, ◌+◌, ◌<◌, ◌^◌, Bool, true, false, not, ◌&&◌, List, [], ◌∷◌, ◌++◌, length, map, All, decimal, ℤ, pos, negsuc, FitsSigned, refl, subst, arith}
+use Rattle.std.proofs.Common.{◌≡◌, ◌≢◌, ℕ, suc, ◌+◌, ◌<◌, ◌^◌, Bool, true, false, not, ◌&&◌, List, [], ◌∷◌, ◌++◌, length, map, All, decimal, ℤ, pos, negsuc, refl, sym, subst, arith}
 use Rattle.std.specs.Prelude.{codes, nat_eq}
-use Rattle.std.specs.Int.{w128}
 use Rattle.std.specs.Fmt.{signed_decimal}
 use Rattle.std.specs.List.{AllByRecursion, flat_map}
 use Rattle.std.specs.Char.{digit_value}
@@ -10,13 +9,17 @@ use Rattle.std.proofs.lemmas.Bool.{ne_eqb}
 use Rattle.std.proofs.lemmas.Fmt.{decimal_is_IsNumeral, decimal_is_IsNumeral_wide}
 use Rattle.std.proofs.lemmas.List.Elements.{recursion_from_All}
 use Rattle.grind_schemes.specs.Labels.{IsLabel}
+use Rattle.grind_linear_forms.specs.declared.form.Part.{Part}
+use Rattle.grind_linear_forms.specs.Forms.{FormData}
+use Rattle.grind_polynomials.specs.declared.poly.Term.{Term}
 use Rattle.grind_proof_kernel.specs.declared.claim.Claim.{Claim}
 use Rattle.grind_proof_kernel.specs.declared.claim.Claim.TheVariants as claims
 use Rattle.grind_proof_kernel.specs.declared.proof.Branch.{Branch}
 use Rattle.grind_proof_kernel.specs.declared.proof.Line.{Line}
 use Rattle.grind_proof_kernel.specs.declared.proof.Rule.{Rule}
 use Rattle.grind_proof_kernel.specs.declared.proof.Rule.TheVariants as rules_of
-use Rattle.grind_report.specs.Report.{RawTerm, Block, Report, True, False, Const, Fun, Int, Not, And, Or, Implies, Eq, Le, Add, Neg, Mul, Closed, Unexplored, term_words, rule_words, claim_words, branch_words, line_words, indexed_lines, counted_lines, block_page, end_words, report_page, IsShort, TermFits, RuleFits, ClaimFits, BranchFits, LineFits, BlockFits, ReportFits}
+use Rattle.grind_report.specs.Report.{RawTerm, Block, Report, True, False, Const, Fun, Int, Not, And, Or, Implies, Eq, Le, Add, Neg, Mul, Closed, Unexplored, term_words, part_words, form_words, monomial_words, poly_words, rule_words, paired, factor_first, factor_behind, premise_words, claim_words, branch_words, line_words, indexed_lines, counted_lines, block_page, end_words, report_page, IsShort, IsWide, TermFits, PartFits, FormFits, MonomialFits, PolyFits, RuleFits, FactorsFit, ClaimFits, BranchFits, LineFits, BlockFits, ReportFits}
+use Rattle.grind_report.proofs.RuleShapes.{Shape, plain, combined, gathered, shape}
 use Rattle.grind_report.proofs.Spelling.{IsSolid, IsSolidLine}
 
 -- ---- words that are written out
@@ -55,7 +58,7 @@ decimal_solid n short = digits_solid (decimal n) (decimal_is_IsNumeral n short).
 short_solid : (n : ℕ) → IsShort n → IsSolid (decimal n)
 short_solid n short = decimal_solid n (omega arith)
 
-signed_solid : (z : ℤ) → FitsSigned w128 z → IsSolid (signed_decimal z)
+signed_solid : (z : ℤ) → IsWide z → IsSolid (signed_decimal z)
 signed_solid (pos n) fits = let small = fits.sfits in digits_solid (decimal n) (decimal_is_IsNumeral_wide n (omega arith)).0.1
 signed_solid (negsuc n) fits = let small = fits.sfits in ((refl, refl), digits_solid (decimal (suc n)) (decimal_is_IsNumeral_wide (suc n) (omega arith)).0.1)
 
@@ -73,6 +76,44 @@ numbers_solid (n ∷ ns) h = (short_solid n h.0, numbers_solid ns h.1)
 all_both : {A : Type 0} (P : A → Type 0) (xs ys : List A) → AllByRecursion P xs → AllByRecursion P ys → AllByRecursion P (xs ++ ys)
 all_both P [] ys hx hy = hy
 all_both P (x ∷ xs) ys hx hy = (hx.0, all_both P xs ys hx.1 hy)
+
+-- ---- linear forms, polynomials and factors
+
+items_solid : {A : Type 0} (words : A → List (List ℕ)) (Fits : A → Type 0) (solid : (x : A) → Fits x → AllByRecursion IsSolid (words x))
+    (items : List A) → AllByRecursion Fits items → AllByRecursion IsSolid (flat_map words items)
+items_solid words Fits solid [] fits = tt
+items_solid words Fits solid (x ∷ items) fits =
+    all_both IsSolid (words x) (flat_map words items) (solid x fits.0) (items_solid words Fits solid items fits.1)
+
+part_solid : (part : Part) → PartFits part → AllByRecursion IsSolid (part_words part)
+part_solid part fits = (signed_solid part.coefficient fits.coefficient, (short_solid part.node fits.node, tt))
+
+form_solid : (form : FormData) → FormFits form → AllByRecursion IsSolid (form_words form)
+form_solid form fits =
+    (signed_solid form.constant fits.constant, items_solid part_words PartFits part_solid form.parts (recursion_from_All PartFits form.parts fits.parts))
+
+monomial_solid : (term : Term) → MonomialFits term → AllByRecursion IsSolid (monomial_words term)
+monomial_solid term fits = (
+  signed_solid term.coefficient fits.coefficient,
+  (short_solid (length term.monomial) fits.degree, numbers_solid term.monomial (recursion_from_All IsShort term.monomial fits.nodes)),
+)
+
+poly_solid : (poly : List Term) → PolyFits poly → AllByRecursion IsSolid (poly_words poly)
+poly_solid poly fits =
+    (short_solid (length poly) fits.count, items_solid monomial_words MonomialFits monomial_solid poly (recursion_from_All MonomialFits poly fits.terms))
+
+first_solid : (factor : ℤ) (premise : ℕ) → IsWide factor → IsShort premise → AllByRecursion IsSolid (factor_first factor premise)
+first_solid factor premise wide short = (signed_solid factor wide, (short_solid premise short, tt))
+
+behind_solid : (factor : List Term) (premise : ℕ) → PolyFits factor → IsShort premise → AllByRecursion IsSolid (factor_behind factor premise)
+behind_solid factor premise fits short = (short_solid premise short, poly_solid factor fits)
+
+paired_solid : {A : Type 0} (words : A → ℕ → List (List ℕ)) (Fits : A → Type 0) (solid : (x : A) (p : ℕ) → Fits x → IsShort p → AllByRecursion IsSolid (words x p))
+    (items : List A) (ps : List ℕ) → AllByRecursion Fits items → AllByRecursion IsShort ps → AllByRecursion IsSolid (paired words items ps)
+paired_solid words Fits solid [] ps fits short = tt
+paired_solid words Fits solid (x ∷ items) [] fits short = tt
+paired_solid words Fits solid (x ∷ items) (p ∷ ps) fits short =
+    all_both IsSolid (words x p) (paired words items ps) (solid x p fits.0 short.0) (paired_solid words Fits solid items ps fits.1 short.1)
 
 -- ---- lines
 
@@ -96,6 +137,8 @@ term_solid (Mul a b) fits = (written (codes "mul") refl, (short_solid a fits.0, 
 rule_solid : (rule : Rule) → RuleFits rule → AllByRecursion IsSolid (rule_words rule)
 rule_solid (rules_of.Hyp i) fits = (written (codes "hyp") refl, (short_solid i fits, tt))
 rule_solid rules_of.Negated fits = (written (codes "negated") refl, tt)
+rule_solid (rules_of.Inst t ids) fits =
+    (written (codes "inst") refl, (short_solid t fits.0, numbers_solid ids (recursion_from_All IsShort ids fits.1)))
 rule_solid rules_of.Branch fits = (written (codes "branch") refl, tt)
 rule_solid rules_of.Refl fits = (written (codes "refl") refl, tt)
 rule_solid rules_of.Sym fits = (written (codes "sym") refl, tt)
@@ -107,14 +150,33 @@ rule_solid rules_of.Truth fits = (written (codes "truth") refl, tt)
 rule_solid rules_of.Untruth fits = (written (codes "untruth") refl, tt)
 rule_solid (rules_of.Table free) fits =
     (written (codes "table") refl, (short_solid (length free) fits.0, numbers_solid free (recursion_from_All IsShort free fits.1)))
+rule_solid rules_of.Read fits = (written (codes "read") refl, tt)
+rule_solid rules_of.Write fits = (written (codes "write") refl, tt)
+rule_solid rules_of.Line fits = (written (codes "line") refl, tt)
+rule_solid rules_of.Poly fits = (written (codes "poly") refl, tt)
+rule_solid (rules_of.Combine divisor factors) fits = (written (codes "combine") refl, (signed_solid divisor fits, tt))
+rule_solid rules_of.Pinch fits = (written (codes "pinch") refl, tt)
+rule_solid rules_of.Strict fits = (written (codes "strict") refl, tt)
+rule_solid (rules_of.Ideal divisor factors) fits = (written (codes "ideal") refl, (signed_solid divisor fits, tt))
+rule_solid rules_of.Equal fits = (written (codes "equal") refl, tt)
 rule_solid rules_of.Apart fits = (written (codes "apart") refl, tt)
 rule_solid rules_of.Clash fits = (written (codes "clash") refl, tt)
+
+premise_solid : {rule : Rule} → Shape rule → (ps : List ℕ) → FactorsFit rule → AllByRecursion IsShort ps → AllByRecursion IsSolid (premise_words rule ps)
+premise_solid (plain same kind_is words) ps fits short =
+    subst (λ (ws : List (List ℕ)). AllByRecursion IsSolid ws) (sym (words ps)) (numbers_solid ps short)
+premise_solid (combined divisor factors) ps fits short =
+    paired_solid factor_first IsWide first_solid factors ps (recursion_from_All IsWide factors fits) short
+premise_solid (gathered divisor factors) ps fits short =
+    paired_solid factor_behind PolyFits behind_solid factors ps (recursion_from_All PolyFits factors fits) short
 
 claim_solid : (claim : Claim) → ClaimFits claim → AllByRecursion IsSolid (claim_words claim)
 claim_solid (claims.Holds n) fits = (written (codes "holds") refl, (short_solid n fits, tt))
 claim_solid (claims.Fails n) fits = (written (codes "fails") refl, (short_solid n fits, tt))
 claim_solid (claims.Same a b) fits = (written (codes "same") refl, (short_solid a fits.0, (short_solid b fits.1, tt)))
 claim_solid (claims.Differ a b) fits = (written (codes "differ") refl, (short_solid a fits.0, (short_solid b fits.1, tt)))
+claim_solid (claims.AtMost form) fits = (written (codes "atmost") refl, form_solid form fits)
+claim_solid (claims.Zero poly) fits = (written (codes "zero") refl, poly_solid poly fits)
 claim_solid claims.Absurd fits = (written (codes "absurd") refl, tt)
 
 branch_solid : (branch : Branch) → BranchFits branch → AllByRecursion IsSolid (branch_words branch)
@@ -124,9 +186,9 @@ branch_solid branch fits =
 line_solid : (line : Line) → LineFits line → AllByRecursion IsSolid (line_words line)
 line_solid line fits = (
   short_solid line.branch fits.branch,
-  all_both IsSolid (rule_words line.rule) (map decimal line.premises ++ codes ":" ∷ claim_words line.claim) (rule_solid line.rule fits.rule)
-      (all_both IsSolid (map decimal line.premises) (codes ":" ∷ claim_words line.claim)
-      (numbers_solid line.premises (recursion_from_All IsShort line.premises fits.premises))
+  all_both IsSolid (rule_words line.rule) (premise_words line.rule line.premises ++ codes ":" ∷ claim_words line.claim) (rule_solid line.rule fits.rule)
+      (all_both IsSolid (premise_words line.rule line.premises) (codes ":" ∷ claim_words line.claim)
+      (premise_solid (shape line.rule) line.premises fits.factors (recursion_from_All IsShort line.premises fits.premises))
       (written (codes ":") refl, claim_solid line.claim fits.claim)),
 )
 

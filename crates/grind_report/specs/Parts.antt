@@ -47,6 +47,7 @@ head_details signature constants args (heads.Const number) = constant_name const
 abbrev pub rule_word : Rule → List ℕ
 rule_word (rules.Hyp i) = codes "hyp"
 rule_word rules.Negated = codes "negated"
+rule_word (rules.Inst t subst) = codes "inst"
 rule_word rules.Branch = codes "branch"
 rule_word rules.Refl = codes "refl"
 rule_word rules.Sym = codes "sym"
@@ -57,13 +58,23 @@ rule_word rules.Back = codes "back"
 rule_word rules.Truth = codes "truth"
 rule_word rules.Untruth = codes "untruth"
 rule_word (rules.Table free) = codes "table"
+rule_word rules.Read = codes "read"
+rule_word rules.Write = codes "write"
+rule_word rules.Line = codes "line"
+rule_word rules.Poly = codes "poly"
+rule_word (rules.Combine divisor factors) = codes "combine"
+rule_word rules.Pinch = codes "pinch"
+rule_word rules.Strict = codes "strict"
 rule_word rules.Apart = codes "apart"
+rule_word (rules.Ideal divisor factors) = codes "ideal"
+rule_word rules.Equal = codes "equal"
 rule_word rules.Clash = codes "clash"
 
 -- the words behind it, before the premises
 abbrev pub rule_details : Rule → List (List ℕ)
 rule_details (rules.Hyp i) = decimal i ∷ []
 rule_details rules.Negated = []
+rule_details (rules.Inst t subst) = decimal t ∷ map decimal subst
 rule_details rules.Branch = []
 rule_details rules.Refl = []
 rule_details rules.Sym = []
@@ -74,5 +85,14 @@ rule_details rules.Back = []
 rule_details rules.Truth = []
 rule_details rules.Untruth = []
 rule_details (rules.Table free) = decimal (length free) ∷ map decimal free
+rule_details rules.Read = []
+rule_details rules.Write = []
+rule_details rules.Line = []
+rule_details rules.Poly = []
+rule_details (rules.Combine divisor factors) = signed_decimal divisor ∷ []
+rule_details rules.Pinch = []
+rule_details rules.Strict = []
 rule_details rules.Apart = []
+rule_details (rules.Ideal divisor factors) = signed_decimal divisor ∷ []
+rule_details rules.Equal = []
 rule_details rules.Clash = []

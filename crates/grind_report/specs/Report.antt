@@ -3,6 +3,10 @@ use Rattle.std.specs.Prelude.{◌≡◌, ◌⊎◌, ℕ, ◌+◌, ◌<◌, ◌^�
 use Rattle.std.specs.Fmt.{signed_decimal}
 use Rattle.std.specs.Int.{w128}
 use Rattle.grind_schemes.specs.Labels.{IsLabel}
+use Rattle.grind_linear_forms.specs.declared.form.Part.{Part}
+use Rattle.grind_linear_forms.specs.Forms.{FormData, IsForm}
+use Rattle.grind_polynomials.specs.declared.poly.Term.{Term}
+use Rattle.grind_polynomials.specs.Polynomials.{IsPoly}
 use Rattle.grind_proof_kernel.specs.declared.claim.Claim.{Claim}
 use Rattle.grind_proof_kernel.specs.declared.claim.Claim.TheVariants as claims
 use Rattle.grind_proof_kernel.specs.declared.proof.Branch.{Branch}
@@ -59,10 +63,28 @@ term_words (Add a b) = codes "add" ∷ decimal a ∷ decimal b ∷ []
 term_words (Neg a) = codes "neg" ∷ decimal a ∷ []
 term_words (Mul a b) = codes "mul" ∷ decimal a ∷ decimal b ∷ []
 
--- the words of a rule, before its premises. Those of `table` count the free nodes, and list them
+-- the words of a node with its coefficient
+abbrev pub part_words : Part → List (List ℕ)
+part_words part = signed_decimal part.coefficient ∷ decimal part.node ∷ []
+
+-- the words of a linear form: its constant, and then each node behind its coefficient
+abbrev pub form_words : FormData → List (List ℕ)
+form_words form = signed_decimal form.constant ∷ flat_map part_words form.parts
+
+-- the words of a monomial with its coefficient: the coefficient, the degree, and the nodes
+abbrev pub monomial_words : Term → List (List ℕ)
+monomial_words term = signed_decimal term.coefficient ∷ decimal (length term.monomial) ∷ map decimal term.monomial
+
+-- the words of a polynomial: how many monomials it has, and then each with its coefficient
+abbrev pub poly_words : List Term → List (List ℕ)
+poly_words poly = decimal (length poly) ∷ flat_map monomial_words poly
+
+-- the words of a rule, before its premises. Those of `table` count the free nodes, and list them; those of `inst` list the
+-- nodes up to the colon, since the rule has no premise; the factors of `combine` and `ideal` stand among the premises
 abbrev pub rule_words : Rule → List (List ℕ)
 rule_words (rules.Hyp i) = codes "hyp" ∷ decimal i ∷ []
 rule_words rules.Negated = codes "negated" ∷ []
+rule_words (rules.Inst t subst) = codes "inst" ∷ decimal t ∷ map decimal subst
 rule_words rules.Branch = codes "branch" ∷ []
 rule_words rules.Refl = codes "refl" ∷ []
 rule_words rules.Sym = codes "sym" ∷ []
@@ -73,8 +95,58 @@ rule_words rules.Back = codes "back" ∷ []
 rule_words rules.Truth = codes "truth" ∷ []
 rule_words rules.Untruth = codes "untruth" ∷ []
 rule_words (rules.Table free) = codes "table" ∷ decimal (length free) ∷ map decimal free
+rule_words rules.Read = codes "read" ∷ []
+rule_words rules.Write = codes "write" ∷ []
+rule_words rules.Line = codes "line" ∷ []
+rule_words rules.Poly = codes "poly" ∷ []
+rule_words (rules.Combine divisor factors) = codes "combine" ∷ signed_decimal divisor ∷ []
+rule_words rules.Pinch = codes "pinch" ∷ []
+rule_words rules.Strict = codes "strict" ∷ []
 rule_words rules.Apart = codes "apart" ∷ []
+rule_words (rules.Ideal divisor factors) = codes "ideal" ∷ signed_decimal divisor ∷ []
+rule_words rules.Equal = codes "equal" ∷ []
 rule_words rules.Clash = codes "clash" ∷ []
+
+-- the words of factors and of the premises that they belong to
+abbrev pub paired : {A : Type 0} → (A → ℕ → List (List ℕ)) → List A → List ℕ → List (List ℕ)
+paired words [] premises = []
+paired words (factor ∷ factors) [] = []
+paired words (factor ∷ factors) (premise ∷ premises) = words factor premise ++ paired words factors premises
+
+-- a number stands before the premise that it belongs to
+abbrev pub factor_first : ℤ → ℕ → List (List ℕ)
+factor_first factor premise = signed_decimal factor ∷ decimal premise ∷ []
+
+-- a polynomial stands behind the premise that it belongs to
+abbrev pub factor_behind : List Term → ℕ → List (List ℕ)
+factor_behind factor premise = decimal premise ∷ poly_words factor
+
+-- the words of a rule's premises, with their factors if the rule has such
+abbrev pub premise_words : Rule → List ℕ → List (List ℕ)
+premise_words (rules.Hyp i) premises = map decimal premises
+premise_words rules.Negated premises = map decimal premises
+premise_words (rules.Inst t subst) premises = map decimal premises
+premise_words rules.Branch premises = map decimal premises
+premise_words rules.Refl premises = map decimal premises
+premise_words rules.Sym premises = map decimal premises
+premise_words rules.Trans premises = map decimal premises
+premise_words rules.Cong premises = map decimal premises
+premise_words rules.Eq premises = map decimal premises
+premise_words rules.Back premises = map decimal premises
+premise_words rules.Truth premises = map decimal premises
+premise_words rules.Untruth premises = map decimal premises
+premise_words (rules.Table free) premises = map decimal premises
+premise_words rules.Read premises = map decimal premises
+premise_words rules.Write premises = map decimal premises
+premise_words rules.Line premises = map decimal premises
+premise_words rules.Poly premises = map decimal premises
+premise_words (rules.Combine divisor factors) premises = paired factor_first factors premises
+premise_words rules.Pinch premises = map decimal premises
+premise_words rules.Strict premises = map decimal premises
+premise_words rules.Apart premises = map decimal premises
+premise_words (rules.Ideal divisor factors) premises = paired factor_behind factors premises
+premise_words rules.Equal premises = map decimal premises
+premise_words rules.Clash premises = map decimal premises
 
 -- the words of a claim
 abbrev pub claim_words : Claim → List (List ℕ)
@@ -82,6 +154,8 @@ claim_words (claims.Holds n) = codes "holds" ∷ decimal n ∷ []
 claim_words (claims.Fails n) = codes "fails" ∷ decimal n ∷ []
 claim_words (claims.Same a b) = codes "same" ∷ decimal a ∷ decimal b ∷ []
 claim_words (claims.Differ a b) = codes "differ" ∷ decimal a ∷ decimal b ∷ []
+claim_words (claims.AtMost form) = codes "atmost" ∷ form_words form
+claim_words (claims.Zero poly) = codes "zero" ∷ poly_words poly
 claim_words claims.Absurd = codes "absurd" ∷ []
 
 -- the words of a branch: its parent, the first line that may stand in it, and what it assumes
@@ -91,7 +165,7 @@ branch_words branch = decimal branch.parent ∷ decimal branch.after ∷ claim_w
 -- the words of a line of a proof: its branch, its rule with the premises, and its claim behind a colon
 abbrev pub line_words : Line → List (List ℕ)
 line_words line =
-    (decimal line.branch ∷ rule_words line.rule) ++ (map decimal line.premises ++ codes ":" ∷ claim_words line.claim)
+    (decimal line.branch ∷ rule_words line.rule) ++ (premise_words line.rule line.premises ++ codes ":" ∷ claim_words line.claim)
 
 -- the items' lines, each behind its index, from this index on
 abbrev pub indexed_lines : {A : Type 0} → (A → List (List ℕ)) → ℕ → List A → List (List (List ℕ))
@@ -156,10 +230,38 @@ TermFits (Add a b) = IsShort a × IsShort b
 TermFits (Neg a) = IsShort a
 TermFits (Mul a b) = IsShort a × IsShort b
 
--- a rule that can be spelled: its numbers are short
+-- a number of at most 128 bits
+abbrev pub IsWide : ℤ → Type 0
+IsWide z = FitsSigned w128 z
+
+-- a node with its coefficient that can be spelled
+pub record PartFits (part : Part) : Type 0 where
+  pub coefficient : IsWide part.coefficient
+  pub node : IsShort part.node
+
+-- a linear form that can be spelled
+pub record FormFits (form : FormData) : Type 0 where
+  pub constant : IsWide form.constant
+  pub parts : All PartFits form.parts
+  pub rises : IsForm form
+
+-- a monomial with its coefficient that can be spelled
+pub record MonomialFits (term : Term) : Type 0 where
+  pub coefficient : IsWide term.coefficient
+  pub degree : IsShort (length term.monomial)
+  pub nodes : All IsShort term.monomial
+
+-- a polynomial that can be spelled
+pub record PolyFits (poly : List Term) : Type 0 where
+  pub count : IsShort (length poly)
+  pub terms : All MonomialFits poly
+  pub falls : IsPoly poly
+
+-- a rule that can be spelled: its numbers are short, and its divisor has at most 128 bits
 abbrev pub RuleFits : Rule → Type 0
 RuleFits (rules.Hyp i) = IsShort i
 RuleFits rules.Negated = Unit {0}
+RuleFits (rules.Inst t subst) = IsShort t × All IsShort subst
 RuleFits rules.Branch = Unit {0}
 RuleFits rules.Refl = Unit {0}
 RuleFits rules.Sym = Unit {0}
@@ -170,13 +272,50 @@ RuleFits rules.Back = Unit {0}
 RuleFits rules.Truth = Unit {0}
 RuleFits rules.Untruth = Unit {0}
 RuleFits (rules.Table free) = IsShort (length free) × All IsShort free
+RuleFits rules.Read = Unit {0}
+RuleFits rules.Write = Unit {0}
+RuleFits rules.Line = Unit {0}
+RuleFits rules.Poly = Unit {0}
+RuleFits (rules.Combine divisor factors) = IsWide divisor
+RuleFits rules.Pinch = Unit {0}
+RuleFits rules.Strict = Unit {0}
 RuleFits rules.Apart = Unit {0}
+RuleFits (rules.Ideal divisor factors) = IsWide divisor
+RuleFits rules.Equal = Unit {0}
 RuleFits rules.Clash = Unit {0}
 
--- a rule is printed with so many premises
+-- and so can its factors, if it has such
+abbrev pub FactorsFit : Rule → Type 0
+FactorsFit (rules.Hyp i) = Unit {0}
+FactorsFit rules.Negated = Unit {0}
+FactorsFit (rules.Inst t subst) = Unit {0}
+FactorsFit rules.Branch = Unit {0}
+FactorsFit rules.Refl = Unit {0}
+FactorsFit rules.Sym = Unit {0}
+FactorsFit rules.Trans = Unit {0}
+FactorsFit rules.Cong = Unit {0}
+FactorsFit rules.Eq = Unit {0}
+FactorsFit rules.Back = Unit {0}
+FactorsFit rules.Truth = Unit {0}
+FactorsFit rules.Untruth = Unit {0}
+FactorsFit (rules.Table free) = Unit {0}
+FactorsFit rules.Read = Unit {0}
+FactorsFit rules.Write = Unit {0}
+FactorsFit rules.Line = Unit {0}
+FactorsFit rules.Poly = Unit {0}
+FactorsFit (rules.Combine divisor factors) = All IsWide factors
+FactorsFit rules.Pinch = Unit {0}
+FactorsFit rules.Strict = Unit {0}
+FactorsFit rules.Apart = Unit {0}
+FactorsFit (rules.Ideal divisor factors) = All PolyFits factors
+FactorsFit rules.Equal = Unit {0}
+FactorsFit rules.Clash = Unit {0}
+
+-- a rule is printed with so many premises: `combine` and `ideal` with one for each factor
 abbrev pub TakesPremises : Rule → ℕ → Type 0
 TakesPremises (rules.Hyp i) count = count ≡ 0
 TakesPremises rules.Negated count = count ≡ 0
+TakesPremises (rules.Inst t subst) count = count ≡ 0
 TakesPremises rules.Branch count = count ≡ 0
 TakesPremises rules.Refl count = count ≡ 0
 TakesPremises rules.Sym count = count ≡ 1
@@ -187,7 +326,16 @@ TakesPremises rules.Back count = count ≡ 1
 TakesPremises rules.Truth count = count ≡ 1
 TakesPremises rules.Untruth count = count ≡ 1
 TakesPremises (rules.Table free) count = Unit {0}
+TakesPremises rules.Read count = count ≡ 1
+TakesPremises rules.Write count = count ≡ 1
+TakesPremises rules.Line count = count ≡ 1
+TakesPremises rules.Poly count = count ≡ 1
+TakesPremises (rules.Combine divisor factors) count = count ≡ length factors
+TakesPremises rules.Pinch count = count ≡ 2
+TakesPremises rules.Strict count = count ≡ 2
 TakesPremises rules.Apart count = (count ≡ 0) ⊎ ((count ≡ 1) ⊎ (count ≡ 3))
+TakesPremises (rules.Ideal divisor factors) count = count ≡ length factors
+TakesPremises rules.Equal count = count ≡ 1
 TakesPremises rules.Clash count = (count ≡ 1) ⊎ (count ≡ 2)
 
 -- a claim that can be spelled
@@ -196,6 +344,8 @@ ClaimFits (claims.Holds n) = IsShort n
 ClaimFits (claims.Fails n) = IsShort n
 ClaimFits (claims.Same a b) = IsShort a × IsShort b
 ClaimFits (claims.Differ a b) = IsShort a × IsShort b
+ClaimFits (claims.AtMost form) = FormFits form
+ClaimFits (claims.Zero poly) = PolyFits poly
 ClaimFits claims.Absurd = Unit {0}
 
 -- a branch that can be spelled
@@ -208,6 +358,7 @@ pub record BranchFits (branch : Branch) : Type 0 where
 pub record LineFits (line : Line) : Type 0 where
   pub branch : IsShort line.branch
   pub rule : RuleFits line.rule
+  pub factors : FactorsFit line.rule
   pub count : TakesPremises line.rule (length line.premises)
   pub premises : All IsShort line.premises
   pub claim : ClaimFits line.claim

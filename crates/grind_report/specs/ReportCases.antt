@@ -1,11 +1,13 @@
 -- Worked cases: blocks and lines that are spelled, and some that do not fit.
-use Rattle.std.specs.Prelude.{◌≡◌, [], ◌∷◌, ◌++◌, codes, refl, negsuc}
+use Rattle.std.specs.Prelude.{◌≡◌, [], ◌∷◌, ◌++◌, codes, refl, pos, negsuc}
 use Rattle.std.specs.Fmt.{digits}
 use Rattle.std.proofs.Common.{lit<, inl, inr}
+use Rattle.grind_linear_forms.specs.Forms.{form_data, part_of, number_form}
+use Rattle.grind_polynomials.specs.Polynomials.{term_of}
 use Rattle.grind_proof_kernel.specs.declared.claim.Claim.TheVariants as claims
 use Rattle.grind_proof_kernel.specs.declared.proof.Line.{Line}
 use Rattle.grind_proof_kernel.specs.declared.proof.Rule.TheVariants as rules
-use Rattle.grind_report.specs.Report.{Block, True, False, Const, Fun, Int, Closed, Unexplored, term_words, line_words, line_bytes, block_bytes, BlockFits, LineFits}
+use Rattle.grind_report.specs.Report.{Block, True, False, Const, Fun, Int, Closed, Unexplored, term_words, line_words, line_bytes, block_bytes, BlockFits, LineFits, ClaimFits}
 
 -- a goal that nobody looked at is one line
 pub unexplored_is_spelled : block_bytes (Unexplored (codes "t")) ≡ codes "goal t open unexplored" ++ 10 ∷ []
@@ -51,6 +53,38 @@ pub line_is_spelled : line_bytes (line_words clash) ≡ codes "0 clash 2 0 : abs
 unfolding digits
 line_is_spelled = refl
 
+-- a bound, 2 times node 5 less 3, that is read off
+abbrev bounded : Line
+bounded = record { branch = 0; rule = rules.Read; premises = 0 ∷ []; claim = claims.AtMost (form_data (part_of 5 (pos 2) ∷ []) (negsuc 2)) }
+
+pub bound_is_spelled : line_bytes (line_words bounded) ≡ codes "0 read 0 : atmost -3 2 5" ++ 10 ∷ []
+unfolding digits
+bound_is_spelled = refl
+
+-- two bounds, once and four times, whose sum is divided by 2
+abbrev summed : Line
+summed = record { branch = 0; rule = rules.Combine (pos 2) (pos 1 ∷ pos 4 ∷ []); premises = 3 ∷ 6 ∷ []; claim = claims.AtMost (number_form (pos 7)) }
+
+pub sum_is_spelled : line_bytes (line_words summed) ≡ codes "0 combine 2 1 3 4 6 : atmost 7" ++ 10 ∷ []
+unfolding digits
+sum_is_spelled = refl
+
+-- a polynomial that is 0: 3 times the square of node 4, less 1
+abbrev squared : Line
+squared = record { branch = 0; rule = rules.Poly; premises = 2 ∷ []; claim = claims.Zero (term_of (pos 3) (4 ∷ 4 ∷ []) ∷ term_of (negsuc 0) [] ∷ []) }
+
+pub poly_is_spelled : line_bytes (line_words squared) ≡ codes "0 poly 2 : zero 2 3 2 4 4 -1 0" ++ 10 ∷ []
+unfolding digits
+poly_is_spelled = refl
+
+-- one such polynomial times node 4, and another times nothing, divided by -1
+abbrev gathered : Line
+gathered = record { branch = 0; rule = rules.Ideal (negsuc 0) ((term_of (pos 1) (4 ∷ []) ∷ []) ∷ [] ∷ []); premises = 5 ∷ 8 ∷ []; claim = claims.Zero [] }
+
+pub ideal_is_spelled : line_bytes (line_words gathered) ≡ codes "0 ideal -1 5 1 1 1 4 8 0 : zero 0" ++ 10 ∷ []
+unfolding digits
+ideal_is_spelled = refl
+
 -- a name with a space has no spelling
 pub spaced_name_fits_not : BlockFits (Unexplored (codes "a b")) → ⊥
 spaced_name_fits_not fits = (fits.solid 1 0 (lit< tt)).0 refl
@@ -68,3 +102,18 @@ halved = record { branch = 0; rule = rules.Apart; premises = 1 ∷ 2 ∷ []; cla
 
 pub apart_of_two_fits_not : LineFits halved → ⊥
 apart_of_two_fits_not fits = elim fits.count [ inl e ↦ absurd cc | inr some ↦ elim some [ inl e ↦ absurd cc | inr e ↦ absurd cc ] ]
+
+-- nor has a sum of one bound with two factors
+abbrev unpaired : Line
+unpaired = record { branch = 0; rule = rules.Combine (pos 1) (pos 1 ∷ pos 2 ∷ []); premises = 3 ∷ []; claim = claims.Absurd }
+
+pub unpaired_factor_fits_not : LineFits unpaired → ⊥
+unpaired_factor_fits_not fits = absurd (let counts : 1 ≡ 2 = fits.count in cc counts)
+
+-- nor has a bound with a coefficient 0
+pub coefficient_0_fits_not : ClaimFits (claims.AtMost (form_data (part_of 5 (pos 0) ∷ []) (pos 1))) → ⊥
+coefficient_0_fits_not fits = fits.rises.1 refl
+
+-- nor a polynomial with such a one
+pub monomial_0_fits_not : ClaimFits (claims.Zero (term_of (pos 0) (4 ∷ []) ∷ [])) → ⊥
+monomial_0_fits_not fits = fits.falls.1 refl

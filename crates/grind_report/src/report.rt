@@ -5,6 +5,7 @@ ghost use Rattle.grind_report.specs.Naming.{raw_of};
 ghost use Rattle.grind_report.specs.Blocks.{ProofOf, IsBlockOf, IsPrintable, OutcomePrintable};
 
 mod block;
+mod forms;
 mod lines;
 mod rules;
 mod terms;

@@ -116,7 +116,7 @@ const REFUSED: [(&str, &str); 54] = [
 ];
 
 /// In each declaration two faults stand, or the second declaration has another: the first of them is named.
-const FIRST_OF_TWO: [(&str, &str); 17] = [
+const FIRST_OF_TWO: [(&str, &str); 22] = [
     ("sort S. sort S. @", "bad byte at offset 16"),
     ("sort S. sort S. sort", "declaration 3: syntax"),
     (
@@ -124,6 +124,23 @@ const FIRST_OF_TWO: [(&str, &str); 17] = [
         "declaration 2: duplicate name",
     ),
     ("goal t: |- p(1. sort S. sort S.", "declaration 1: syntax"),
+    (
+        "fun f(Int): Int. goal f: |- f(1, 1) = 1.",
+        "declaration 2: duplicate name",
+    ),
+    ("sort S. goal S: |- 1.", "declaration 2: duplicate name"),
+    (
+        "sort S. theorem S (x: Int): x = x.",
+        "declaration 2: duplicate name",
+    ),
+    (
+        "fun f(Int): Int. theorem t (a b c d e g h i j k l m n o p q r: Int): f(1, 1) = 1.",
+        "declaration 2: wrong number of arguments",
+    ),
+    (
+        "theorem t (a b c d e f g h i j k l m n o p q: Int): true.",
+        "declaration 1: no pattern",
+    ),
     (
         "sort S. goal S (x: T): |- true.",
         "declaration 2: duplicate name",
@@ -226,7 +243,7 @@ struct Edge {
 
 const DEEP: &str = "declaration 1: nested too deep";
 
-const EDGES: [Edge; 10] = [
+const EDGES: [Edge; 11] = [
     Edge {
         first: "goal t: |- ",
         piece: "~",
@@ -297,6 +314,13 @@ const EDGES: [Edge; 10] = [
         most: 127,
         words: "declaration 2: too large",
     },
+    Edge {
+        first: "fun p: Prop. theorem t: ~ p",
+        piece: " /\\ p",
+        last: ".",
+        most: 127,
+        words: "declaration 2: too large",
+    },
 ];
 
 #[test]
@@ -328,6 +352,38 @@ fn open_parentheses(rt: HostRuntime) -> Result<(), Fail> {
     runs_as(&rt, text.as_slice(), &[Status::SomeOpen])?;
     let text = nested(alloc, 201)?;
     refuses(&rt, text.as_slice(), DEEP)
+}
+
+/// Too many open parentheses come before a fault of the grammar, a fault of the grammar before a deep tree, and a deep tree
+/// before a fault of the names.
+#[test]
+fn depth_among_other_faults(rt: HostRuntime) -> Result<(), Fail> {
+    let alloc = rt.alloc();
+    let text = built(alloc, "goal t: |- ", "(", 201, "true.")?;
+    refuses(&rt, text.as_slice(), DEEP)?;
+    let text = built(alloc, "goal t: |- ", "~", 200, "true true.")?;
+    refuses(&rt, text.as_slice(), "declaration 1: syntax")?;
+    let text = built(alloc, "sort t. goal t: |- ", "~", 200, "true.")?;
+    refuses(&rt, text.as_slice(), "declaration 2: nested too deep")
+}
+
+/// A goal whose conclusion is an equation with a term that is nested so deep.
+fn applied(alloc: Global, count: u32) -> Result<Vec<u8>, Fail> {
+    let mut text = built(alloc, "fun f(Int): Int. goal t: |- 0 = ", "f(", count, "0")?;
+    for _ in 0..count {
+        text.push(b')')?;
+    }
+    text.push(b'.')?;
+    Ok(text)
+}
+
+#[test]
+fn nested_terms(rt: HostRuntime) -> Result<(), Fail> {
+    let alloc = rt.alloc();
+    let text = applied(alloc, 198)?;
+    runs_as(&rt, text.as_slice(), &[Status::SomeOpen])?;
+    let text = applied(alloc, 199)?;
+    refuses(&rt, text.as_slice(), "declaration 2: nested too deep")
 }
 
 /// A goal whose table has `2 * end` nodes: true, false, and the numbers from 1 that are below the end, with their

@@ -1,5 +1,5 @@
 -- What a branch assumes, and what its ancestors do.
-use Rattle.std.specs.Prelude.{◌≡◌, ℕ, zero, suc, List, Option, Some, None, option_and_then, ℤ, refl}
+use Rattle.std.specs.Prelude.{◌≡◌, ℕ, zero, suc, List, Some, None, option_and_then, ℤ, refl}
 use Rattle.std.proofs.Common.{sym, ap, ◌∙◌, subst}
 use Rattle.std.proofs.lemmas.Option.{same_Some, none-some}
 use Rattle.grind_proof_kernel.specs.declared.claim.Claim.{Claim}
@@ -7,11 +7,7 @@ use Rattle.grind_proof_kernel.specs.declared.proof.Branch.{Branch}
 use Rattle.grind_proof_kernel.specs.Typing.{parent_of, literal_of, branch_above}
 use Rattle.grind_value_tables.specs.Truths.{ClaimTrue}
 use Rattle.grind_value_tables.specs.Laws.{AssumesTruth}
-
--- what comes through an option
-through : (f : ℕ → Option ℕ) (o : Option ℕ) (x : ℕ) → option_and_then f o ≡ Some x → (y : ℕ) × (o ≡ Some y) × (f y ≡ Some x)
-through f None x e = absurd (none-some x e)
-through f (Some y) x e = (y, refl, e)
+use Rattle.grind_value_tables.proofs.Meanings.{chained}
 
 module _ (branches : List Branch) where
   -- one step more above a branch is so many steps above its parent
@@ -31,7 +27,7 @@ module _ (branches : List Branch) where
       → branch_above branches more middle ≡ Some above → (all : ℕ) × (branch_above branches all branch ≡ Some above)
   above_above steps branch middle e zero above f = (steps, e ∙ f)
   above_above steps branch middle e (suc more) above f =
-      let last = through (parent_of branches) (branch_above branches more middle) above f in
+      let last = chained (parent_of branches) (branch_above branches more middle) above f in
       let so_far = above_above steps branch middle e more last.0 last.1 in
       (suc so_far.0, ap (option_and_then (parent_of branches)) so_far.1 ∙ last.2)
 

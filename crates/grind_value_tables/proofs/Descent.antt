@@ -1,29 +1,33 @@
 -- No branch of a typed proof assumes only what is true, where the hypotheses are true and the conclusion is false.
-use Rattle.std.specs.Prelude.{◌≡◌, ◌==◌, ℕ, zero, suc, ◌+◌, ◌-◌, ◌<◌, ◌≤◌, ◌⊎◌, Bool, true, false, cond, List, [], ◌∷◌, ◌++◌, Option, Some, All, find, length, reverse, slice_get, slice_index_or, ℤ, refl}
+use Rattle.std.specs.Prelude.{◌≡◌, ◌==◌, ℕ, zero, suc, ◌+◌, ◌-◌, ◌<◌, ◌≤◌, ◌⊎◌, Bool, true, false, cond, List, [], ◌∷◌, ◌++◌, Option, Some, All, find, length, reverse, slice_get, slice_index_or, ℤ, pos, ◌+ℤ◌, neg_ℤ, ◌≤ℤ◌, refl}
 use Rattle.std.specs.Option.{option_map}
 use Rattle.std.proofs.Common.{arith, sym, ap, ◌∙◌, subst, inl, inr}
 use Rattle.std.proofs.lemmas.Bool.Decides.{Decides-eqb}
+use Rattle.std.proofs.lemmas.Int.{by_lt_z}
 use Rattle.std.proofs.lemmas.List.{get_or-reverse, length-reverse}
 use Rattle.std.proofs.lemmas.List.Elements.{All-head, All-tail}
 use Rattle.std.proofs.lemmas.Option.{same_Some, none-some, slice_get-get_or}
+use Rattle.grind_lemmas.proofs.Rings.{linear}
 use Rattle.grind_term_graph.specs.declared.node.Node.{Node}
 use Rattle.grind_term_graph.specs.Terms.{prop, sort_at}
+use Rattle.grind_linear_forms.specs.Values.{form_value}
+use Rattle.grind_differences.specs.Bounds.{opposite_form}
+use Rattle.grind_differences.specs.Laws.{OppositesHaveTheirValues}
 use Rattle.grind_schemes.specs.Goals.{GoalData}
 use Rattle.grind_schemes.specs.declared.lemmas.Lemmas.{Lemmas}
 use Rattle.grind_proof_kernel.specs.declared.claim.Claim.{Claim}
-use Rattle.grind_proof_kernel.specs.declared.claim.Claim.TheVariants.{Holds, Fails, Same, Differ, Absurd}
+use Rattle.grind_proof_kernel.specs.declared.claim.Claim.TheVariants.{Holds, Fails, Same, Differ, AtMost, Zero, Absurd}
 use Rattle.grind_proof_kernel.specs.declared.proof.Branch.{Branch}
 use Rattle.grind_proof_kernel.specs.declared.proof.Line.{Line}
 use Rattle.grind_proof_kernel.specs.declared.proof.Proof.{Proof}
 use Rattle.grind_proof_kernel.specs.Claims.{IsFormed}
 use Rattle.grind_proof_kernel.specs.Typing.{IsLiteral, AreOpposite, IsParent, IsClosed, IsFirst, IsSecond, IsInPair, IsListed, IsGoodBranch, Typed, branch_at, parent_of}
 use Rattle.grind_value_tables.specs.Respects.{zero_value, Respects}
-use Rattle.grind_value_tables.specs.Truths.{ClaimTrue, AreTrue}
-use Rattle.grind_value_tables.specs.Laws.{AssumesTruth, IsTableFor, TypedIsTrue}
+use Rattle.grind_value_tables.specs.Truths.{ClaimTrue, AreTrue, InstancesTrue}
+use Rattle.grind_value_tables.specs.Laws.{AssumesTruth, IsTableFor, Sound, TypedIsTrue}
 use Rattle.grind_value_tables.proofs.Fronts.{IsSomeAnd-at}
 use Rattle.grind_value_tables.proofs.Meanings.{IsSomeAnd-item, claim_is, formula_value}
 use Rattle.grind_value_tables.proofs.Ancestors.{assumes_child, assumes_root}
-use Rattle.grind_value_tables.proofs.SoundLines.{sound_line}
 
 module _ {X : Type 0} where
   -- what holds of each item holds of each from behind
@@ -60,20 +64,30 @@ closed_is_absurd lines branch v branches true_lines assumes closed =
     let claim : ClaimTrue v last.0.claim = at.0 (subst (AssumesTruth v branches) (sym own) assumes) in
     subst (ClaimTrue v) last.2 claim
 
+-- of a whole number and 1 less that number one is at most 0
+one_at_most : (x y : ℤ) → y ≡ pos 1 +ℤ neg_ℤ x → (x ≤ℤ pos 0) ⊎ (y ≤ℤ pos 0)
+one_at_most x y e = by_lt_z (pos 0) x (λ over. inr (omega (arith, linear))) (λ under. inl under)
+
 -- of two opposite literals one is true
-one_is_true : (nodes : List Node) (v : ℕ → ℤ) → Respects nodes v → (literal other : Claim) → IsLiteral literal
-    → IsFormed nodes literal → AreOpposite literal other → ClaimTrue v literal ⊎ ClaimTrue v other
-one_is_true nodes v respects (Holds n) other is formed opposite = elim (formula_value nodes v respects n formed) [
+one_is_true : OppositesHaveTheirValues → (nodes : List Node) (v : ℕ → ℤ) → Respects nodes v → (literal other : Claim)
+    → IsLiteral literal → IsFormed nodes literal → AreOpposite literal other → ClaimTrue v literal ⊎ ClaimTrue v other
+one_is_true law nodes v respects (Holds n) other is formed opposite = elim (formula_value nodes v respects n formed) [
   | inl no_value ↦ inr (claim_is v other (Fails n) opposite no_value)
   | inr value ↦ inl value
 ]
-one_is_true nodes v respects (Fails n) other is formed opposite = elim (formula_value nodes v respects n formed) [
+one_is_true law nodes v respects (Fails n) other is formed opposite = elim (formula_value nodes v respects n formed) [
   | inl no_value ↦ inl no_value
   | inr value ↦ inr (claim_is v other (Holds n) opposite value)
 ]
-one_is_true nodes v respects (Same a b) other is formed opposite = absurd is
-one_is_true nodes v respects (Differ a b) other is formed opposite = absurd is
-one_is_true nodes v respects Absurd other is formed opposite = absurd is
+one_is_true law nodes v respects (Same a b) other is formed opposite = absurd is
+one_is_true law nodes v respects (Differ a b) other is formed opposite = absurd is
+one_is_true law nodes v respects (AtMost form) other is formed opposite =
+    elim (one_at_most (form_value v form) (form_value v (opposite_form form)) (law v form)) [
+      | inl bound ↦ inl bound
+      | inr bound ↦ inr (claim_is v other (AtMost (opposite_form form)) opposite bound)
+    ]
+one_is_true law nodes v respects (Zero poly) other is formed opposite = absurd is
+one_is_true law nodes v respects Absurd other is formed opposite = absurd is
 
 -- a good branch is the parent of a pair, or closed
 ends_of : (proof : Proof) (branch : ℕ) → IsGoodBranch proof branch
@@ -118,8 +132,9 @@ module _ (nodes : List Node) (branches : List Branch) (lines : List Line) (k : �
         IsSomeAnd-at (branch_at branches (pair.0 + pair.0 + 1)) (λ (one_branch : Branch). IsSecond one_branch it) first at h.1
   ]
 
-module _ (lemmas : Lemmas) (goal : GoalData) (proof : Proof) (v : ℕ → ℤ) (values : IsTableFor goal proof v)
-    (hyps : AreTrue v goal.hyps) (show : v goal.show ≡ zero_value) (typed : Typed lemmas goal proof) where
+module _ (sound : Sound) (opposites : OppositesHaveTheirValues) (lemmas : Lemmas) (goal : GoalData) (proof : Proof) (v : ℕ → ℤ)
+    (values : IsTableFor goal proof v)
+    (hyps : AreTrue v goal.hyps) (instances : InstancesTrue v proof) (show : v goal.show ≡ zero_value) (typed : Typed lemmas goal proof) where
   -- a listed branch, of that number, assumes only what is true where its parent does and its literal is true
   assumes_listed : (branch parent : ℕ) (it : Branch) → branch_at proof.branches branch ≡ Some it → it.parent ≡ parent
       → AssumesTruth v proof.branches parent → ClaimTrue v it.literal → AssumesTruth v proof.branches branch
@@ -143,7 +158,7 @@ module _ (lemmas : Lemmas) (goal : GoalData) (proof : Proof) (v : ℕ → ℤ) (
       let second = second_of_pair proof.terms.nodes proof.branches proof.lines k one_at.0 two_at.0 one_at.1 two_at.2.pair in
       let up : one_at.0.parent ≡ branch = same_Some one_at.0.parent branch
       (sym (ap (option_map (λ (b : Branch). b.parent)) one_at.1) ∙ parent.1.1) in
-      elim (one_is_true proof.terms.nodes v values.respects one_at.0.literal two_at.0.literal first.literal first.formed
+      elim (one_is_true opposites proof.terms.nodes v values.respects one_at.0.literal two_at.0.literal first.literal first.formed
       second.literal) [
         | inl own ↦ none_above (k + k + 1) (omega (arith, first.above, up)) (omega (arith, parent.1.0))
             (assumes_listed (k + k + 1) branch one_at.0 one_at.1 up assumes own)
@@ -158,7 +173,7 @@ module _ (lemmas : Lemmas) (goal : GoalData) (proof : Proof) (v : ℕ → ℤ) (
   no_branch (suc count) branch far within assumes = elim (ends_of proof branch (typed.branches branch within)) [
     | inl parent ↦ no_parent branch (λ higher above stands. no_branch count higher (omega arith) stands) assumes parent
     | inr closed ↦ closed_is_absurd proof.lines branch v proof.branches
-        (sound_line lemmas goal proof v values hyps show typed.lines) assumes closed
+        (sound lemmas goal proof v values hyps instances show typed.lines) assumes closed
   ]
 
   pub no_false_conclusion : ⊥
@@ -171,12 +186,12 @@ sort_of_longer [] more n sort e = absurd (none-some sort e)
 sort_of_longer (node ∷ nodes) more zero sort e = e
 sort_of_longer (node ∷ nodes) more (suc n) sort e = sort_of_longer nodes more n sort e
 
-pub typed_proofs : TypedIsTrue
-typed_proofs lemmas goal proof v is_goal values typed hyps =
+pub typed_proofs : Sound → OppositesHaveTheirValues → TypedIsTrue
+typed_proofs sound opposites lemmas goal proof v is_goal values typed hyps instances =
     let sort : sort_at proof.terms.nodes goal.show ≡ Some prop =
     subst (λ ns. sort_at ns goal.show ≡ Some prop) (sym values.begins.1)
     (sort_of_longer goal.terms.nodes values.begins.0 goal.show prop is_goal.show) in
     elim (formula_value proof.terms.nodes v values.respects goal.show sort) [
-      | inl show ↦ absurd (no_false_conclusion lemmas goal proof v values hyps show typed)
+      | inl show ↦ absurd (no_false_conclusion sound opposites lemmas goal proof v values hyps instances show typed)
       | inr show ↦ show
     ]

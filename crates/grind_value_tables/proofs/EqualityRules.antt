@@ -1,4 +1,4 @@
--- Each rule but `cong` and `table` lets a line claim what is true, where its premises are.
+-- Each rule over equality and truth but `cong` and `table` lets a line claim what is true, where its premises are, and so does `clash`.
 use Rattle.std.specs.Prelude.{◌≡◌, ℕ, List, [], ◌∷◌, Option, Some, IfSome, ℤ, refl}
 use Rattle.std.proofs.Common.{sym, ap, ◌∙◌, subst, inl, inr}
 use Rattle.std.proofs.lemmas.Option.{slice_get_within, get_or_from_slice_get}
@@ -8,9 +8,11 @@ use Rattle.grind_schemes.specs.Goals.{GoalData}
 use Rattle.grind_proof_kernel.specs.declared.claim.Claim.{Claim}
 use Rattle.grind_proof_kernel.specs.declared.claim.Claim.TheVariants.{Holds, Fails, Same, Differ}
 use Rattle.grind_proof_kernel.specs.Claims.{IsFormed}
-use Rattle.grind_proof_kernel.specs.Rules.{true_node, false_node, IsHyp, IsNegated, IsAssumed, IsRefl, IsSym, IsTrans, IsEq, IsBack, IsTruth, IsUntruth, IsApart, IsClash, IsImpossible, AreOpposed, AreSplit}
+use Rattle.grind_proof_kernel.specs.Rules.{true_node, false_node, IsHyp, IsNegated, IsAssumed, IsRefl, IsSym, IsTrans, IsEq, IsBack, IsTruth, IsUntruth, IsClash, IsFalseEquality, IsImpossible, AreOpposed, AreSplit}
 use Rattle.grind_value_tables.specs.Respects.{one, zero_value, Respects}
 use Rattle.grind_value_tables.specs.Truths.{ClaimTrue, AreTrue}
+use Rattle.grind_value_tables.proofs.LinearRules.{not_too_great}
+use Rattle.grind_value_tables.proofs.PolyRules.{not_false_zero}
 use Rattle.grind_value_tables.proofs.Meanings.{PremisesHold, false≢one, false_unless, claim_is, premises_are, premise_is, equation_value, equation_of_value, number_value, formula_value, true_value, false_value}
 
 module _ (goal : GoalData) (v : ℕ → ℤ) (premises : List (Option Claim)) (claim : Claim) where
@@ -41,15 +43,6 @@ module _ (v : ℕ → ℤ) (premises : List (Option Claim)) (claim : Claim) (hol
   trans_sound rule =
       let h = premises_are v premises (Some (Same rule.0 rule.1) ∷ Some (Same rule.1 rule.2) ∷ []) rule.3 hold in
       claim_is v claim (Same rule.0 rule.2) rule.4 (h.0 ∙ h.1.0)
-
-  pub apart_sound : IsApart premises claim → ClaimTrue v claim
-  apart_sound rule =
-      let h = premises_are v premises
-      (Some (Differ rule.2 rule.3) ∷ Some (Same rule.0 rule.2) ∷ Some (Same rule.1 rule.3) ∷ []) rule.4 hold in
-      elim rule.5 [
-        | inl e ↦ claim_is v claim (Differ rule.0 rule.1) e (λ equal. h.0 (sym h.1.0 ∙ equal ∙ h.1.1.0))
-        | inr e ↦ claim_is v claim (Differ rule.1 rule.0) e (λ equal. h.0 (sym h.1.0 ∙ sym equal ∙ h.1.1.0))
-      ]
 
   module _ (nodes : List Node) (respects : Respects nodes v) where
     pub eq_sound : IsEq nodes premises claim → ClaimTrue v claim
@@ -104,9 +97,9 @@ module _ (v : ℕ → ℤ) (premises : List (Option Claim)) (claim : Claim) (hol
       | inr e ↦ premise_is v second (Differ h.1 h.0) e q (sym (premise_is v first (Same h.0 h.1) h.2 p))
     ]
 
-    -- and what is impossible is not true
-    not_impossible : IsBegun nodes → (first : Option Claim) → IfSome first (ClaimTrue v) → IsImpossible nodes first → ⊥
-    not_impossible begun first p h =
+    -- nor an equality of `True` and `False` or of two different numbers
+    not_false_equality : IsBegun nodes → (first : Option Claim) → IfSome first (ClaimTrue v) → IsFalseEquality nodes first → ⊥
+    not_false_equality begun first p h =
         let equal : v h.0 ≡ v h.1 = premise_is v first (Same h.0 h.1) h.2 p in
         let yes = true_value nodes v respects begun in
         let false_is = false_value nodes v respects begun in
@@ -115,6 +108,12 @@ module _ (v : ℕ → ℤ) (premises : List (Option Claim)) (claim : Claim) (hol
           | inl (inr e) ↦ false≢one (v h.0) (ap v e.0 ∙ false_is) (equal ∙ ap v e.1 ∙ yes)
           | inr e ↦ e.4 (sym (number_value nodes v respects h.0 e.0 e.2) ∙ equal ∙ number_value nodes v respects h.1 e.1 e.3)
         ]
+
+    -- and what is impossible is not true
+    not_impossible : IsBegun nodes → (first : Option Claim) → IfSome first (ClaimTrue v) → IsImpossible nodes first → ⊥
+    not_impossible begun first p (inl h) = not_false_equality begun first p h
+    not_impossible begun first p (inr (inl h)) = not_too_great v first p h
+    not_impossible begun first p (inr (inr h)) = not_false_zero v first p h
 
     pub clash_sound : IsBegun nodes → IsClash nodes premises claim → ClaimTrue v claim
     clash_sound begun rule = absurd (elim rule.1 [

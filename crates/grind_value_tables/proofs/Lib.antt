@@ -1,6 +1,10 @@
 pub mod Fronts
 pub mod KeptNodes
+pub mod StepLemmas
 pub mod Meanings
+pub mod Arithmetic
+pub mod LinearRules
+pub mod PolyRules
 pub mod EqualityRules
 pub mod CongRule
 pub mod TableRule

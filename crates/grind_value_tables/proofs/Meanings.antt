@@ -1,6 +1,6 @@
 -- What a table of values that respects the terms says of one node, of a claim and of premises.
 use Rattle.std.specs.Prelude.{◌≡◌, ◌↔◌, ℕ, List, [], ◌∷◌, Option, Some, None, IfSome, map, slice_get, ℤ, refl}
-use Rattle.std.specs.Option.{IsSomeAnd, option_map}
+use Rattle.std.specs.Option.{IsSomeAnd, option_and_then, option_map}
 use Rattle.std.proofs.Common.{sym, ap, ◌∙◌, subst, inl, inr}
 use Rattle.std.proofs.lemmas.Option.{same_Some, none-some}
 use Rattle.grind_term_graph.specs.declared.head.Head.{Head}
@@ -26,6 +26,12 @@ false≢one z e f = let both : zero_value ≡ one = sym e ∙ f in absurd cc
 pub false_unless : (z : ℤ) → IsTruthValue z → (z ≡ one → ⊥) → z ≡ zero_value
 false_unless z (inl e) h = e
 false_unless z (inr e) h = absurd (h e)
+
+-- what stands in a chain of two options
+pub chained : {A B : Type 0} (f : A → Option B) (o : Option A) (x : B) → option_and_then f o ≡ Some x
+    → (y : A) × (o ≡ Some y) × (f y ≡ Some x)
+chained f None x e = absurd (none-some x e)
+chained f (Some y) x e = (y, refl, e)
 
 -- the item of which something holds
 pub IsSomeAnd-item : {X : Type 0} (o : Option X) (P : X → Type 0) → IsSomeAnd o P → (x : X) × (o ≡ Some x) × P x

@@ -1,6 +1,6 @@
 -- Each line of typed lines claims what is true, where all that its branch assumes is.
 use Rattle.std.specs.Prelude.{◌≡◌, ℕ, zero, suc, ◌<◌, List, [], ◌∷◌, Option, Some, IfSome, All, slice_get, ℤ, refl}
-use Rattle.std.specs.Option.{option_map}
+use Rattle.std.specs.Option.{IsSomeAnd, option_map}
 use Rattle.std.proofs.Common.{arith, sym, ap, subst}
 use Rattle.std.proofs.lemmas.List.Elements.{All-head, All-tail}
 use Rattle.std.proofs.lemmas.Option.{slice_get_within}
@@ -9,6 +9,7 @@ use Rattle.grind_term_graph.specs.Shape.{IsTermTable}
 use Rattle.grind_schemes.specs.Goals.{GoalData}
 use Rattle.grind_schemes.specs.declared.lemmas.Lemmas.{Lemmas}
 use Rattle.grind_proof_kernel.specs.declared.claim.Claim.{Claim}
+use Rattle.grind_proof_kernel.specs.declared.claim.Claim.TheVariants.{Holds}
 use Rattle.grind_proof_kernel.specs.declared.proof.Branch.{Branch}
 use Rattle.grind_proof_kernel.specs.declared.proof.Line.{Line}
 use Rattle.grind_proof_kernel.specs.declared.proof.Proof.{Proof}
@@ -17,42 +18,66 @@ use Rattle.grind_proof_kernel.specs.declared.proof.Rule.TheVariants as rules
 use Rattle.grind_proof_kernel.specs.Claims.{IsFormed, claim_at, claims_at}
 use Rattle.grind_proof_kernel.specs.Rules.{Says}
 use Rattle.grind_proof_kernel.specs.Typing.{Reaches, Serves, IsTypedAs, literal_of}
-use Rattle.grind_value_tables.specs.Respects.{zero_value, Respects}
-use Rattle.grind_value_tables.specs.Truths.{ClaimTrue, AreTrue}
+use Rattle.grind_value_tables.specs.Respects.{one, zero_value, Respects}
+use Rattle.grind_value_tables.specs.Truths.{ClaimTrue, AreTrue, InstancesTrue, IsByInst}
 use Rattle.grind_value_tables.specs.Laws.{AssumesTruth, HasTypedLines, IsTableFor, Sound}
 use Rattle.grind_value_tables.proofs.Fronts.{IsSomeAnd-at}
-use Rattle.grind_value_tables.proofs.Meanings.{PremisesHold, IsSomeAnd-item}
-use Rattle.grind_value_tables.proofs.EqualityRules.{hyp_sound, negated_sound, branch_sound, refl_sound, sym_sound, trans_sound, apart_sound, eq_sound, back_sound, truth_sound, untruth_sound, clash_sound}
+use Rattle.grind_value_tables.proofs.Meanings.{PremisesHold, IsSomeAnd-item, claim_is}
+use Rattle.grind_value_tables.proofs.EqualityRules.{hyp_sound, negated_sound, branch_sound, refl_sound, sym_sound, trans_sound, eq_sound, back_sound, truth_sound, untruth_sound, clash_sound}
+use Rattle.grind_value_tables.proofs.Arithmetic.{ArithmeticLaws}
+use Rattle.grind_value_tables.proofs.LinearRules.{read_sound, write_sound, line_sound, combine_sound, pinch_sound, strict_sound, apart_sound}
+use Rattle.grind_value_tables.proofs.PolyRules.{poly_sound, ideal_sound, equal_sound}
 use Rattle.grind_value_tables.proofs.CongRule.{cong_sound}
 use Rattle.grind_value_tables.proofs.TableRule.{table_sound}
 use Rattle.grind_value_tables.proofs.Ancestors.{assumes_above}
 
-module _ (goal : GoalData) (nodes : List Node) (limit : ℕ) (v : ℕ → ℤ) (table : IsTermTable nodes limit)
-    (respects : Respects nodes v) (hyps : AreTrue v goal.hyps) (show : v goal.show ≡ zero_value) where
+module _ (laws : ArithmeticLaws) (goal : GoalData) (nodes : List Node) (limit : ℕ) (v : ℕ → ℤ) (table : IsTermTable nodes limit)
+    (lemmas : Lemmas) (respects : Respects nodes v) (hyps : AreTrue v goal.hyps) (show : v goal.show ≡ zero_value) where
   -- each rule lets a line claim what is true
   pub says_sound : (rule : Rule) (literal : Option Claim) (premises : List (Option Claim)) (claim : Claim)
-      → IsFormed nodes claim → ((it : Claim) → literal ≡ Some it → ClaimTrue v it) → PremisesHold v premises
-      → Says goal nodes literal rule premises claim → ClaimTrue v claim
-  says_sound (rules.Hyp i) literal premises claim formed assumed hold says = hyp_sound goal v premises claim i hyps says
-  says_sound rules.Negated literal premises claim formed assumed hold says = negated_sound goal v premises claim show says
-  says_sound rules.Branch literal premises claim formed assumed hold says =
+      → ((n : ℕ) → IsByInst rule → claim ≡ Holds n → v n ≡ one) → IsFormed nodes claim → ((it : Claim) → literal ≡ Some it → ClaimTrue v it) → PremisesHold v premises
+      → Says lemmas goal nodes literal rule premises claim → ClaimTrue v claim
+  says_sound (rules.Hyp i) literal premises claim listed formed assumed hold says = hyp_sound goal v premises claim i hyps says
+  says_sound rules.Negated literal premises claim listed formed assumed hold says = negated_sound goal v premises claim show says
+  says_sound (rules.Inst t ids) literal premises claim listed formed assumed hold says =
+      claim_is v claim (Holds says.0) says.3 (listed says.0 (t, ids, refl) says.3)
+  says_sound rules.Branch literal premises claim listed formed assumed hold says =
       branch_sound goal v premises claim literal assumed says
-  says_sound rules.Refl literal premises claim formed assumed hold says = refl_sound v premises claim hold says
-  says_sound rules.Sym literal premises claim formed assumed hold says = sym_sound v premises claim hold says
-  says_sound rules.Trans literal premises claim formed assumed hold says = trans_sound v premises claim hold says
-  says_sound rules.Cong literal premises claim formed assumed hold says =
+  says_sound rules.Refl literal premises claim listed formed assumed hold says = refl_sound v premises claim hold says
+  says_sound rules.Sym literal premises claim listed formed assumed hold says = sym_sound v premises claim hold says
+  says_sound rules.Trans literal premises claim listed formed assumed hold says = trans_sound v premises claim hold says
+  says_sound rules.Cong literal premises claim listed formed assumed hold says =
       cong_sound v premises claim hold nodes respects table.0 says
-  says_sound rules.Eq literal premises claim formed assumed hold says = eq_sound v premises claim hold nodes respects says
-  says_sound rules.Back literal premises claim formed assumed hold says =
+  says_sound rules.Eq literal premises claim listed formed assumed hold says = eq_sound v premises claim hold nodes respects says
+  says_sound rules.Back literal premises claim listed formed assumed hold says =
       back_sound v premises claim hold nodes respects formed says
-  says_sound rules.Truth literal premises claim formed assumed hold says =
+  says_sound rules.Truth literal premises claim listed formed assumed hold says =
       truth_sound v premises claim hold nodes respects table.1 says
-  says_sound rules.Untruth literal premises claim formed assumed hold says =
+  says_sound rules.Untruth literal premises claim listed formed assumed hold says =
       untruth_sound v premises claim hold nodes respects table.1 says
-  says_sound (rules.Table free) literal premises claim formed assumed hold says =
+  says_sound (rules.Table free) literal premises claim listed formed assumed hold says =
       table_sound v premises claim hold nodes respects table.0 free says
-  says_sound rules.Apart literal premises claim formed assumed hold says = apart_sound v premises claim hold says
-  says_sound rules.Clash literal premises claim formed assumed hold says =
+  says_sound rules.Read literal premises claim listed formed assumed hold says =
+      read_sound laws v premises claim hold nodes respects says
+  says_sound rules.Write literal premises claim listed formed assumed hold says =
+      write_sound laws v premises claim hold nodes respects formed says
+  says_sound rules.Line literal premises claim listed formed assumed hold says =
+      line_sound laws v premises claim hold nodes respects says
+  says_sound rules.Poly literal premises claim listed formed assumed hold says =
+      poly_sound laws v premises claim hold nodes respects says
+  says_sound (rules.Combine divisor factors) literal premises claim listed formed assumed hold says =
+      combine_sound laws v premises claim hold divisor factors says
+  says_sound rules.Pinch literal premises claim listed formed assumed hold says =
+      pinch_sound laws v premises claim hold nodes respects says
+  says_sound rules.Strict literal premises claim listed formed assumed hold says =
+      strict_sound laws v premises claim hold nodes respects says
+  says_sound rules.Apart literal premises claim listed formed assumed hold says =
+      apart_sound laws v premises claim hold nodes respects says
+  says_sound (rules.Ideal divisor factors) literal premises claim listed formed assumed hold says =
+      ideal_sound laws v premises claim hold divisor factors says
+  says_sound rules.Equal literal premises claim listed formed assumed hold says =
+      equal_sound laws v premises claim hold nodes respects says
+  says_sound rules.Clash literal premises claim listed formed assumed hold says =
       clash_sound v premises claim hold nodes respects table.1 says
 
 -- where each line before line i claims what is true if its branch assumes that, so do the premises of line i
@@ -74,8 +99,8 @@ module _ (v : ℕ → ℤ) (branches : List Branch) (lines : List Line) (i branc
     premises_hold numbers (All-tail (Serves branches lines i branch) j numbers serve),
   )
 
-module _ (lemmas : Lemmas) (goal : GoalData) (proof : Proof) (v : ℕ → ℤ) (values : IsTableFor goal proof v)
-    (hyps : AreTrue v goal.hyps) (show : v goal.show ≡ zero_value) (typed : HasTypedLines lemmas goal proof) where
+module _ (laws : ArithmeticLaws) (lemmas : Lemmas) (goal : GoalData) (proof : Proof) (v : ℕ → ℤ) (values : IsTableFor goal proof v)
+    (hyps : AreTrue v goal.hyps) (instances : InstancesTrue v proof) (show : v goal.show ≡ zero_value) (typed : HasTypedLines lemmas goal proof) where
   -- each of the first lines, so many of them, claims what is true
   sound_below : (count i : ℕ) (line : Line) → i < count → slice_get proof.lines i ≡ Some line
       → AssumesTruth v proof.branches line.branch → ClaimTrue v line.claim
@@ -83,8 +108,13 @@ module _ (lemmas : Lemmas) (goal : GoalData) (proof : Proof) (v : ℕ → ℤ) (
   sound_below (suc count) i line below is assumes =
       let it = IsSomeAnd-at (slice_get proof.lines i) (IsTypedAs lemmas goal proof i) line is
       (typed i (slice_get_within proof.lines i line is)) in
-      says_sound goal proof.terms.nodes proof.terms.limit v values.table values.respects hyps show line.rule
-      (literal_of proof.branches line.branch) (claims_at proof.lines line.premises) line.claim it.claim
+      says_sound laws goal proof.terms.nodes proof.terms.limit v values.table lemmas values.respects hyps show line.rule
+      (literal_of proof.branches line.branch) (claims_at proof.lines line.premises) line.claim
+      (λ n by_inst holds. instances n (
+        i,
+        subst (λ (o : Option Line). IsSomeAnd o
+            (λ (at : Line). IsByInst at.rule × (at.claim ≡ Holds n))) (sym is) (by_inst, holds),
+      )) it.claim
       (λ literal e. assumes 0 line.branch literal refl e)
       (premises_hold v proof.branches proof.lines i line.branch
       (λ j other earlier. sound_below count j other (omega arith)) assumes line.premises it.premises) it.rule
@@ -93,6 +123,6 @@ module _ (lemmas : Lemmas) (goal : GoalData) (proof : Proof) (v : ℕ → ℤ) (
       → ClaimTrue v line.claim
   sound_line i line is assumes = sound_below (suc i) i line (omega arith) is assumes
 
-pub sound_lines : Sound
-sound_lines lemmas goal proof v values hyps show typed i line is assumes =
-    sound_line lemmas goal proof v values hyps show typed i line is assumes
+pub sound_lines : ArithmeticLaws → Sound
+sound_lines laws lemmas goal proof v values hyps instances show typed i line is assumes =
+    sound_line laws lemmas goal proof v values hyps instances show typed i line is assumes

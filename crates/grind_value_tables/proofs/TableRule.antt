@@ -17,7 +17,7 @@ use Rattle.grind_term_graph.specs.Terms.{prop, sort_at}
 use Rattle.grind_term_graph.specs.Shape.{IsShaped, IsTable}
 use Rattle.grind_term_graph.proofs.Tables.{WellShaped-at}
 use Rattle.grind_proof_kernel.specs.declared.claim.Claim.{Claim}
-use Rattle.grind_proof_kernel.specs.declared.claim.Claim.TheVariants.{Holds, Fails, Same, Differ, Absurd}
+use Rattle.grind_proof_kernel.specs.declared.claim.Claim.TheVariants.{Holds, Fails, Same, Differ, AtMost, Zero, Absurd}
 use Rattle.grind_proof_kernel.specs.Tables.{free_truth, of_one, of_two, implies, alike, joined_truth, truth_at, node_truth, truths_of, truth_of, premise_truth, conclusion_truth, IsTable as IsTableRule}
 use Rattle.grind_value_tables.specs.Respects.{one, zero_value, IsTruthValue, Means, OfOne, OfTwo, Respects}
 use Rattle.grind_value_tables.specs.Truths.{ClaimTrue}
@@ -240,6 +240,8 @@ module _ (v : ℕ → ℤ) where
     premise_true (Some (Fails n)) some hold = failed n (truth n) (agree n) some hold
     premise_true (Some (Same a b)) some hold = absurd (false≢true some)
     premise_true (Some (Differ a b)) some hold = absurd (false≢true some)
+    premise_true (Some (AtMost form)) some hold = absurd (false≢true some)
+    premise_true (Some (Zero poly)) some hold = absurd (false≢true some)
     premise_true (Some Absurd) some hold = absurd (false≢true some)
 
     premises_true : (premises : List (Option Claim)) → All (λ (p : Option Claim). IsSome (premise_truth truth p)) premises
@@ -255,6 +257,8 @@ module _ (v : ℕ → ℤ) where
     conclusion_true (Fails n) e = failing n (truth n) (agree n) e
     conclusion_true (Same a b) e = absurd (none-some true e)
     conclusion_true (Differ a b) e = absurd (none-some true e)
+    conclusion_true (AtMost form) e = absurd (none-some true e)
+    conclusion_true (Zero poly) e = absurd (none-some true e)
     conclusion_true Absurd e = absurd (false≢true (same_Some false true e))
 
 module _ (v : ℕ → ℤ) (premises : List (Option Claim)) (claim : Claim) (hold : PremisesHold v premises) (nodes : List Node)

@@ -9,7 +9,7 @@ use Rattle.grind_proof_kernel.specs.declared.proof.Line.{Line}
 use Rattle.grind_proof_kernel.specs.declared.proof.Proof.{Proof}
 use Rattle.grind_proof_kernel.specs.Typing.{HasTerms, TypedLine, Typed, branch_above, literal_of}
 use Rattle.grind_value_tables.specs.Respects.{Respects, zero_value}
-use Rattle.grind_value_tables.specs.Truths.{ClaimTrue, AreTrue, GoalTrue}
+use Rattle.grind_value_tables.specs.Truths.{ClaimTrue, AreTrue, InstancesTrue, GoalTrue}
 
 -- what the branch and its ancestors assume is true
 abbrev pub AssumesTruth : (ℕ → ℤ) → List Branch → ℕ → Type 0
@@ -26,12 +26,12 @@ pub record IsTableFor (goal : GoalData) (proof : Proof) (v : ℕ → ℤ) : Type
 abbrev pub HasTypedLines : Lemmas → GoalData → Proof → Type 0
 HasTypedLines lemmas goal proof = (i : ℕ) → i < length proof.lines → TypedLine lemmas goal proof i
 
--- where the hypotheses are true and the conclusion is false, and each line is typed, a line claims what is true if all
--- that its branch assumes is true
+-- where the hypotheses and the listed instances are true and the conclusion is false, and each line is typed, a line claims
+-- what is true if all that its branch assumes is true
 abbrev pub Sound : Type 0
 Sound =
     (lemmas : Lemmas) (goal : GoalData) (proof : Proof) (v : ℕ → ℤ) → IsTableFor goal proof v →
-    AreTrue v goal.hyps → v goal.show ≡ zero_value → HasTypedLines lemmas goal proof →
+    AreTrue v goal.hyps → InstancesTrue v proof → v goal.show ≡ zero_value → HasTypedLines lemmas goal proof →
     (i : ℕ) (line : Line) → slice_get proof.lines i ≡ Some line →
     AssumesTruth v proof.branches line.branch → ClaimTrue v line.claim
 
@@ -39,4 +39,4 @@ Sound =
 abbrev pub TypedIsTrue : Type 0
 TypedIsTrue =
     (lemmas : Lemmas) (goal : GoalData) (proof : Proof) (v : ℕ → ℤ) → IsGoal goal → IsTableFor goal proof v →
-    Typed lemmas goal proof → GoalTrue goal v
+    Typed lemmas goal proof → GoalTrue goal proof v

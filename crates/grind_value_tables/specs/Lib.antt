@@ -1,5 +1,7 @@
 pub mod Respects
 pub mod RespectsCases
+pub mod Evaluations
+pub mod EvaluationsCases
 pub mod Overflows
 pub mod Truths
 pub mod Laws

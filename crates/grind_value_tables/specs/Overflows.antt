@@ -1,11 +1,14 @@
 -- A table of values as a list of numbers of 128 bits, and where a value that is asked for does not fit.
-use Rattle.std.specs.Prelude.{ℕ, List, map, take, slice_get, slice_index_or, ℤ, pos, ◌+ℤ◌, ◌*ℤ◌, neg_ℤ, FitsSigned}
+use Rattle.std.specs.Prelude.{◌≡◌, ℕ, List, None, map, take, slice_get, slice_index_or, ℤ, pos, ◌+ℤ◌, ◌*ℤ◌, neg_ℤ, FitsSigned}
 use Rattle.std.specs.Option.{IsSomeAnd}
 use Rattle.std.specs.Int.{w128}
 use Rattle.grind_term_graph.specs.declared.head.Head.{Head}
 use Rattle.grind_term_graph.specs.declared.head.Head.TheVariants as head
 use Rattle.grind_term_graph.specs.declared.node.Node.{Node}
+use Rattle.grind_proof_kernel.specs.declared.claim.Claim.{Claim}
+use Rattle.grind_proof_kernel.specs.declared.claim.Claim.TheVariants.{Holds, Fails, Same, Differ, AtMost, Zero, Absurd}
 use Rattle.grind_value_tables.specs.Respects.{OfOne, OfTwo, Respects}
+use Rattle.grind_value_tables.specs.Evaluations.{form_sum, poly_sum}
 
 -- the value of a node, where the values are listed in the order of the nodes; 0 past the end
 abbrev pub value_of : List ℤ → ℕ → ℤ
@@ -40,3 +43,13 @@ OverflowsAt nodes v n = Respects (take n nodes) v
 -- there is a node at which the judging overflows
 abbrev pub Overflows : List Node → (ℕ → ℤ) → Type 0
 Overflows nodes v = (n : ℕ) × OverflowsAt nodes v n
+
+-- a product or a sum on the way to the value of the claim's form or polynomial does not fit
+abbrev pub ClaimOverflows : (ℕ → ℤ) → Claim → Type 0
+ClaimOverflows v (Holds n) = ⊥
+ClaimOverflows v (Fails n) = ⊥
+ClaimOverflows v (Same a b) = ⊥
+ClaimOverflows v (Differ a b) = ⊥
+ClaimOverflows v (AtMost form) = form_sum v form ≡ None
+ClaimOverflows v (Zero poly) = poly_sum v poly ≡ None
+ClaimOverflows v Absurd = ⊥

@@ -4,6 +4,7 @@
 #![tactic(auto)]
 
 pub mod claims;
+mod evaluation;
 mod functions;
 mod heads;
 mod keeping;

@@ -1,8 +1,12 @@
 //! Small tables of values, by the public calls.
-ghost use Rattle.std.specs.Prelude.{◌<◌, length, IfOk};
+ghost use Rattle.std.specs.Prelude.{IsTrue, ◌<◌, All, length, IfOk};
+ghost use Rattle.grind_linear_forms.specs.declared.form.Part as parts;
+ghost use Rattle.grind_polynomials.specs.declared.poly.Term as terms;
 
 use crate::{Overflow, Values, claim_true, respects};
+use grind_linear_forms::{Form, FormRefusal, scale};
 use grind_outside::{List, Memory};
+use grind_polynomials::{Poly, PolyRefusal, Term, add_product};
 use grind_proof_kernel::Claim;
 use grind_term_graph::{Args, FunId, Head, Node, NodeId, SortId, TermRefusal, TermTable};
 use std::alloc::Global;
@@ -113,5 +117,88 @@ fn reads_a_claim(rt: HostRuntime) -> Result<(), Fail> {
     let claim = Claim::Differ(NodeId::TRUE, NodeId::FALSE);
     assert!(rt; given.list.len() == 3);
     assert_eq!(rt; claim_true(&claim, &given), Ok(true));
+    Ok(())
+}
+
+// Whether each node of the form has a value.
+fn form_has_values(form: &Form, count: usize) -> bool
+    ensures { IsTrue result → All (λ (part : parts.Part). part.node < count) form.now.parts }
+{
+    form.parts()
+        .iter()
+        .all(|part| (part.node.number() as usize) < count)
+}
+
+// Whether each node has a value.
+fn nodes_have_values(nodes: &[NodeId], count: usize) -> bool
+    ensures { IsTrue result → All (λ n. n < count) nodes.now }
+{
+    nodes.iter().all(|node| (node.number() as usize) < count)
+}
+
+// Whether each node of the polynomial has a value.
+fn poly_has_values(poly: &Poly, count: usize) -> bool
+    ensures { IsTrue result → All (λ (term : terms.Term). All (λ n. n < count) term.monomial) poly.now }
+{
+    poly.terms()
+        .iter()
+        .all(|term| nodes_have_values(term.monomial.as_slice(), count))
+}
+
+// What is answered of a bound on this form, where each of its nodes has a value.
+fn bounded(form: Form, given: &Values) -> Option<Result<bool, Overflow>> {
+    if !form_has_values(&form, given.list.len()) {
+        return None;
+    }
+    let claim = Claim::AtMost(form);
+    Some(claim_true(&claim, given))
+}
+
+// What is answered of the equation of this polynomial with 0, where each of its nodes has a value.
+fn vanishing(poly: Poly, given: &Values) -> Option<Result<bool, Overflow>> {
+    if !poly_has_values(&poly, given.list.len()) {
+        return None;
+    }
+    let claim = Claim::Zero(poly);
+    Some(claim_true(&claim, given))
+}
+
+// Twice node 0.
+fn doubled(alloc: Global) -> Result<Form, FormRefusal> {
+    let node = Form::node(alloc, NodeId::TRUE)?;
+    scale(alloc, &node, 2)
+}
+
+// Node 0 times itself.
+fn squared(alloc: Global) -> Result<Poly, PolyRefusal> {
+    let node = Poly::node(alloc, NodeId::TRUE)?;
+    add_product(alloc, &Poly::zero(alloc), &node, &node)
+}
+
+#[test]
+fn reads_a_bound(rt: HostRuntime) -> Result<(), Fail> {
+    let alloc = rt.alloc();
+    for (number, want) in [(0, Ok(true)), (1, Ok(false)), (i128::MAX, Err(Overflow))] {
+        let given = values(alloc, &[number])?;
+        assert_eq!(rt;
+            bounded(doubled(alloc)?, &given),
+            Some(want),
+            "with {number}"
+        );
+    }
+    Ok(())
+}
+
+#[test]
+fn reads_an_equation(rt: HostRuntime) -> Result<(), Fail> {
+    let alloc = rt.alloc();
+    for (number, want) in [(0, Ok(true)), (-1, Ok(false)), (i128::MIN, Err(Overflow))] {
+        let given = values(alloc, &[number])?;
+        assert_eq!(rt;
+            vanishing(squared(alloc)?, &given),
+            Some(want),
+            "with {number}"
+        );
+    }
     Ok(())
 }

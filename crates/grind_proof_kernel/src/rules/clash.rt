@@ -1,11 +1,14 @@
 //! The rule of contradictions: clash.
 ghost use Rattle.std.specs.Prelude.{IsTrue, ◌↔◌, ◌≡◌, ◌<◌, ◌⊎◌, Some, length, All, IfSome, IfNone, ℤ};
 ghost use Rattle.grind_proof_kernel.specs.Claims.{claims_at};
-ghost use Rattle.grind_proof_kernel.specs.Rules.{IsClash, AreOpposed, AreSplit, IsImpossible, AreBothTruths, AreTwoNumbers, IsNumber};
+ghost use Rattle.grind_proof_kernel.specs.LinearRules.{IsTooGreat};
+ghost use Rattle.grind_proof_kernel.specs.PolyRules.{IsFalseZero};
+ghost use Rattle.grind_proof_kernel.specs.Rules.{IsClash, AreOpposed, AreSplit, IsFalseEquality, IsImpossible, AreBothTruths, AreTwoNumbers, IsNumber};
 
 use super::premises::{only_premise, two_premises};
 use crate::claim::Claim;
 use crate::proof::Line;
+use grind_differences::is_other_than_zero;
 use grind_term_graph::{Head, NodeId, TermTable};
 
 /// clash: claims that contradict each other, in either order, or a claim that cannot be.
@@ -58,9 +61,43 @@ fn are_split(one: &Claim, other: &Claim) -> bool
     (left == a && right == b) || (left == b && right == a)
 }
 
-/// Whether the claim says that `True` and `False`, or two different numbers, are equal.
+/// Whether the claim cannot be.
 fn is_impossible(terms: &TermTable, one: &Claim) -> bool
     ensures { IsTrue result ↔ IsImpossible terms.now.nodes (Some one.now) }
+{
+    is_false_equality(terms, one) || is_false_number(one)
+}
+
+/// Whether the claim says that a number over 0 is at most 0, or that another number than 0 is 0.
+fn is_false_number(one: &Claim) -> bool
+    ensures { IsTrue result ↔ (IsTooGreat (Some one.now) ⊎ IsFalseZero (Some one.now)) }
+{
+    is_too_great(one) || is_false_zero(one)
+}
+
+/// Whether the claim says that another number than 0 is 0.
+fn is_false_zero(one: &Claim) -> bool
+    ensures { IsTrue result ↔ IsFalseZero (Some one.now) }
+{
+    let Claim::Zero(poly) = one else {
+        return false;
+    };
+    is_other_than_zero(poly)
+}
+
+/// Whether the claim says that a number over 0 is at most 0.
+fn is_too_great(one: &Claim) -> bool
+    ensures { IsTrue result ↔ IsTooGreat (Some one.now) }
+{
+    let Claim::AtMost(form) = one else {
+        return false;
+    };
+    form.parts().is_empty() && form.constant() > 0
+}
+
+/// Whether the claim says that `True` and `False`, or two different numbers, are equal.
+fn is_false_equality(terms: &TermTable, one: &Claim) -> bool
+    ensures { IsTrue result ↔ IsFalseEquality terms.now.nodes (Some one.now) }
 {
     let Claim::Same(a, b) = one else {
         return false;

@@ -1,9 +1,9 @@
-//! The rules of equality: refl, sym, trans, eq, back and apart.
+//! The rules of equality: refl, sym, trans, eq and back.
 ghost use Rattle.std.specs.Prelude.{IsTrue, ◌↔◌, ◌≡◌, ◌<◌, [], ◌∷◌, length, All};
 ghost use Rattle.grind_proof_kernel.specs.Claims.{claims_at};
-ghost use Rattle.grind_proof_kernel.specs.Rules.{IsRefl, IsSym, IsTrans, IsEquation, IsEquationOf, IsEq, IsBack, IsApart};
+ghost use Rattle.grind_proof_kernel.specs.Rules.{IsRefl, IsSym, IsTrans, IsEquation, IsEquationOf, IsEq, IsBack};
 
-use super::premises::{only_premise, three_premises, two_premises};
+use super::premises::{only_premise, two_premises};
 use crate::claim::Claim;
 use crate::proof::Line;
 use grind_term_graph::{Head, NodeId, TermTable};
@@ -103,29 +103,6 @@ pub fn is_back(terms: &TermTable, lines: &[Line], premises: &[u32], claim: &Clai
         }
         _ => false,
     }
-}
-
-/// apart: what equals one of two different terms differs from what equals the other.
-pub fn is_apart(lines: &[Line], premises: &[u32], claim: &Claim) -> bool
-    requires { All (λ p. p < length lines.now) premises.now }
-    ensures { IsTrue result ↔ IsApart (claims_at lines.now premises.now) claim.now }
-{
-    let Some((different, one, other)) = three_premises(lines, premises) else {
-        return false;
-    };
-    let Claim::Differ(c, d) = different else {
-        return false;
-    };
-    let Claim::Same(a, like_a) = one else {
-        return false;
-    };
-    let Claim::Same(b, like_b) = other else {
-        return false;
-    };
-    let Claim::Differ(left, right) = claim else {
-        return false;
-    };
-    like_a == c && like_b == d && ((left == a && right == b) || (left == b && right == a))
 }
 
 /// Whether the node is the equation of these two, in either order.

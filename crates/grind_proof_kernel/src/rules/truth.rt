@@ -6,6 +6,7 @@ ghost use Rattle.grind_proof_kernel.specs.Rules.{IsHyp, IsNegated, IsAssumed, Is
 use super::premises::only_premise;
 use crate::claim::Claim;
 use crate::proof::Line;
+use grind_differences::{is_same_form, is_same_poly};
 use grind_schemes::Goal;
 use grind_term_graph::NodeId;
 
@@ -47,7 +48,22 @@ pub fn is_assumed(literal: Option<&Claim>, lines: &[Line], premises: &[u32], cla
     let Some(assumed) = literal else {
         return false;
     };
-    premises.is_empty() && assumed == claim
+    premises.is_empty() && is_same_claim(assumed, claim)
+}
+
+/// Whether the claims are the same.
+fn is_same_claim(one: &Claim, other: &Claim) -> bool
+    ensures { IsTrue result ↔ (one.now ≡ other.now) }
+{
+    match one {
+        Claim::Holds(node) => matches!(other, Claim::Holds(same) if same == node),
+        Claim::Fails(node) => matches!(other, Claim::Fails(same) if same == node),
+        Claim::Same(a, b) => matches!(other, Claim::Same(c, d) if a == c && b == d),
+        Claim::Differ(a, b) => matches!(other, Claim::Differ(c, d) if a == c && b == d),
+        Claim::AtMost(form) => matches!(other, Claim::AtMost(same) if is_same_form(form, same)),
+        Claim::Zero(poly) => matches!(other, Claim::Zero(same) if is_same_poly(poly, same)),
+        Claim::Absurd => matches!(other, Claim::Absurd),
+    }
 }
 
 /// truth: a formula that holds equals `True`, and one that fails `False`.

@@ -2,7 +2,7 @@
 ghost use Rattle.std.specs.Prelude.{◌≡◌, ◌++◌, ◌∷◌, [], length, OnOk, decimal};
 ghost use Rattle.grind_report.specs.Report.{spaced, line_bytes, claim_words, branch_words, line_words, IsShort, ClaimFits, BranchFits, LineFits, TakesPremises};
 
-use crate::report::{rules, words};
+use crate::report::{forms, rules, words};
 use grind_outside::{List, Memory};
 use grind_proof_kernel::{Branch, Claim, Line};
 use grind_term_graph::NodeId;
@@ -24,7 +24,7 @@ fn put_two(out: &mut List<u8>, word: &[u8], left: NodeId, right: NodeId) -> Resu
 fn put_claim(out: &mut List<u8>, claim: &Claim) -> Result<(), Memory>
     ensures { OnOk result ((out.new ≡ out.old ++ spaced (claim_words claim.now)) × ClaimFits claim.now) }
 {
-    match *claim {
+    match claim {
         Claim::Holds(node) => {
             words::put_word(out, b"holds")?;
             words::put_number(out, node.number())?;
@@ -36,11 +36,21 @@ fn put_claim(out: &mut List<u8>, claim: &Claim) -> Result<(), Memory>
             Ok(())
         }
         Claim::Same(left, right) => {
-            put_two(out, b"same", left, right)?;
+            put_two(out, b"same", *left, *right)?;
             Ok(())
         }
         Claim::Differ(left, right) => {
-            put_two(out, b"differ", left, right)?;
+            put_two(out, b"differ", *left, *right)?;
+            Ok(())
+        }
+        Claim::AtMost(form) => {
+            words::put_word(out, b"atmost")?;
+            forms::put_form(out, form)?;
+            Ok(())
+        }
+        Claim::Zero(poly) => {
+            words::put_word(out, b"zero")?;
+            forms::put_poly(out, poly)?;
             Ok(())
         }
         Claim::Absurd => {
@@ -72,7 +82,7 @@ pub fn put_line(out: &mut List<u8>, index: u32, line: &Line) -> Result<(), Memor
     words::put_digits(out, index)?;
     words::put_number(out, line.branch)?;
     rules::put_rule(out, &line.rule)?;
-    words::put_numbers(out, line.premises.as_slice())?;
+    rules::put_premises(out, &line.rule, line.premises.as_slice())?;
     words::put_word(out, b":")?;
     put_claim(out, &line.claim)?;
     words::end_line(out)?;

@@ -3,7 +3,9 @@ ghost use Rattle.std.specs.Prelude.{◌≡◌, length};
 ghost use Rattle.grind_report.specs.Report.{TakesPremises};
 
 use crate::report::{self, Outcome, lines, terms};
+use grind_linear_forms::Form;
 use grind_outside::{List, Memory};
+use grind_polynomials::Poly;
 use grind_proof_kernel::{Branch, Claim, Line, Rule};
 use grind_schemes::Goal;
 use grind_signature::signature::Signature;
@@ -127,6 +129,85 @@ fn prints_rules_with_numbers(rt: HostRuntime) -> Result<(), Fail> {
     assert_eq!(rt;
         apart.as_slice(),
         b"14 0 apart 1 2 3 : differ 2 3\n".as_slice()
+    );
+    Ok(())
+}
+
+#[test]
+fn prints_bounds(rt: HostRuntime) -> Result<(), Fail> {
+    let alloc = rt.alloc();
+    let five = Claim::AtMost(Form::node(alloc, NodeId::new(5))?);
+    let read = line_text(alloc, 0, Rule::Read, &[3], five)?;
+    assert_eq!(rt; read.as_slice(), b"0 0 read 3 : atmost 0 1 5\n".as_slice());
+    let less = Claim::AtMost(Form::number(alloc, -7));
+    let line = line_text(alloc, 1, Rule::Line, &[0], less)?;
+    assert_eq!(rt; line.as_slice(), b"1 0 line 0 : atmost -7\n".as_slice());
+    Ok(())
+}
+
+#[test]
+fn prints_what_follows_from_bounds(rt: HostRuntime) -> Result<(), Fail> {
+    let alloc = rt.alloc();
+    let write = line_text(alloc, 3, Rule::Write, &[1], Claim::Fails(NodeId::new(6)))?;
+    assert_eq!(rt; write.as_slice(), b"3 0 write 1 : fails 6\n".as_slice());
+    let less = Claim::AtMost(Form::number(alloc, -6));
+    let strict = line_text(alloc, 2, Rule::Strict, &[4, 1], less)?;
+    assert_eq!(rt;
+        strict.as_slice(),
+        b"2 0 strict 4 1 : atmost -6\n".as_slice()
+    );
+    let pinch = line_text(alloc, 4, Rule::Pinch, &[1, 3], same(3, 5))?;
+    assert_eq!(rt; pinch.as_slice(), b"4 0 pinch 1 3 : same 3 5\n".as_slice());
+    Ok(())
+}
+
+#[test]
+fn prints_factors_before_premises(rt: HostRuntime) -> Result<(), Fail> {
+    let alloc = rt.alloc();
+    let mut factors = List::new(alloc);
+    factors.extend(&[3, -2])?;
+    let rule = Rule::Combine {
+        divisor: 4,
+        factors,
+    };
+    let bound = Claim::AtMost(Form::number(alloc, 1));
+    let combine = line_text(alloc, 9, rule, &[7, 8], bound)?;
+    assert_eq!(rt;
+        combine.as_slice(),
+        b"9 0 combine 4 3 7 -2 8 : atmost 1\n".as_slice()
+    );
+    Ok(())
+}
+
+#[test]
+fn prints_polynomials(rt: HostRuntime) -> Result<(), Fail> {
+    let alloc = rt.alloc();
+    let node = Claim::Zero(Poly::node(alloc, NodeId::new(5))?);
+    let poly = line_text(alloc, 0, Rule::Poly, &[3], node)?;
+    assert_eq!(rt; poly.as_slice(), b"0 0 poly 3 : zero 1 1 1 5\n".as_slice());
+    let number = Claim::Zero(Poly::number(alloc, -7)?);
+    let branch = line_text(alloc, 1, Rule::Branch, &[], number)?;
+    assert_eq!(rt; branch.as_slice(), b"1 0 branch : zero 1 -7 0\n".as_slice());
+    let equal = line_text(alloc, 2, Rule::Equal, &[0], same(3, 5))?;
+    assert_eq!(rt; equal.as_slice(), b"2 0 equal 0 : same 3 5\n".as_slice());
+    Ok(())
+}
+
+#[test]
+fn prints_factors_behind_premises(rt: HostRuntime) -> Result<(), Fail> {
+    let alloc = rt.alloc();
+    let mut factors = List::new(alloc);
+    factors.push(Poly::node(alloc, NodeId::new(5))?)?;
+    factors.push(Poly::zero(alloc))?;
+    let rule = Rule::Ideal {
+        divisor: -1,
+        factors,
+    };
+    let nothing = Claim::Zero(Poly::zero(alloc));
+    let ideal = line_text(alloc, 9, rule, &[7, 8], nothing)?;
+    assert_eq!(rt;
+        ideal.as_slice(),
+        b"9 0 ideal -1 7 1 1 1 5 8 0 : zero 0\n".as_slice()
     );
     Ok(())
 }

@@ -1,0 +1,75 @@
+//! A proof that is a chain of `trans` lines.
+ghost use Rattle.std.specs.Prelude.{IfOk, ◌≤◌};
+ghost use Rattle.grind_proof_kernel.specs.Typing.{HasTerms};
+
+use grind_outside::{List, Memory};
+use grind_proof_kernel::{Claim, Line, Proof, Rule};
+use grind_schemes::Goal;
+use grind_term_graph::NodeId;
+use std::alloc::Global;
+
+/// A proof of the goal with so many lines `trans` one behind the other.
+pub fn chain(alloc: Global, goal: &Goal, size: u32) -> Result<Proof, Memory>
+    requires { size ≤ 4000000 }
+    ensures { IfOk result (HasTerms goal.now) }
+{
+    let _name = goal.name();
+    let lines = lines_of(alloc, goal.show(), NodeId::new(3), size)?;
+    let branches = List::new(alloc);
+    let terms = goal.terms().copy(alloc, u32::MAX)?;
+    Ok(Proof {
+        terms,
+        branches,
+        lines,
+    })
+}
+
+/// The lines of the chain.
+fn lines_of(alloc: Global, show: NodeId, side: NodeId, size: u32) -> Result<List<Line>, Memory>
+    requires { size ≤ 4000000 }
+{
+    let mut lines = List::new(alloc);
+    push(alloc, &mut lines, Rule::Negated, &[], Claim::Fails(show))?;
+    push(alloc, &mut lines, Rule::Refl, &[], Claim::Same(side, side))?;
+    for last in 1..size + 1 {
+        push(
+            alloc,
+            &mut lines,
+            Rule::Trans,
+            &[last, 1],
+            Claim::Same(side, side),
+        )?;
+    }
+    push(
+        alloc,
+        &mut lines,
+        Rule::Back,
+        &[size + 1],
+        Claim::Holds(show),
+    )?;
+    push(
+        alloc,
+        &mut lines,
+        Rule::Clash,
+        &[size + 2, 0],
+        Claim::Absurd,
+    )?;
+    Ok(lines)
+}
+
+fn push(
+    alloc: Global,
+    lines: &mut List<Line>,
+    rule: Rule,
+    from: &[u32],
+    claim: Claim,
+) -> Result<(), Memory> {
+    let mut premises = List::new(alloc);
+    premises.extend(from)?;
+    lines.push(Line {
+        branch: 0,
+        rule,
+        premises,
+        claim,
+    })
+}

@@ -1,0 +1,5 @@
+mod BoundLemmas
+mod CutLemmas
+mod PolyLemmas
+mod FormLemmas
+mod ValueLemmas

@@ -1,0 +1,5 @@
+pub mod Bounds
+pub mod Differences
+pub mod Equations
+pub mod Laws
+pub mod DifferenceCases

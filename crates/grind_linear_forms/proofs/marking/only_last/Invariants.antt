@@ -1,9 +1,0 @@
-use Rattle.std.specs.Prelude.{◌≡◌, ℕ, length}
-use Rattle.grind_linear_forms.specs.Marks.{IsMarked}
-use Rattle.grind_linear_forms.proofs.marking.only_last.Given as goal
-
-abbrev pub invariant-loop-number : goal.invariant-loop-number
-invariant-loop-number l = record {
-  size : length l.marks ≡ l._number;
-  unmarked : (n : ℕ) → IsMarked l.marks n → ⊥;
-}

@@ -1,0 +1,4 @@
+pub mod Clauses
+pub mod Orders
+pub mod CountLemmas
+pub mod ValueLemmas

@@ -1,0 +1,4 @@
+pub mod Order
+pub mod Monomials
+pub mod Counts
+pub mod Laws

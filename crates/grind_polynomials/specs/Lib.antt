@@ -1,0 +1,12 @@
+pub mod Polynomials
+pub mod Sums
+pub mod Rows
+pub mod RowCases
+pub mod Values
+pub mod Readings
+pub mod Marks
+pub mod Pairs
+pub mod Reduction
+pub mod Ranks
+pub mod Gathering
+pub mod Laws

@@ -1,0 +1,19 @@
+-- The readings of marked nodes.
+use Rattle.std.specs.Prelude.{◌≡◌, ℕ, suc, ◌<◌, ◌≤◌, List, length, None, slice_get, Bool}
+use Rattle.grind_term_graph.specs.declared.node.Node.{Node}
+use Rattle.grind_reach.specs.Marks.{IsMarked, HasMarkedArguments, IsReader}
+use Rattle.grind_polynomials.specs.declared.poly.Term.{Term}
+use Rattle.grind_polynomials.specs.Readings.{polynomial}
+
+-- the root and what its reading needs are marked: where the reading of a marked node is not defined, neither is the root's
+pub record ServesReading (nodes : List Node) (root : ℕ) (marks : List Bool) : Type 0 where
+  pub size : length marks ≡ suc root
+  pub top : IsMarked marks root
+  pub needed : (n : ℕ) → IsMarked marks n → polynomial nodes n ≡ None → polynomial nodes root ≡ None
+  pub closed : (n : ℕ) → HasMarkedArguments nodes marks n
+
+-- of the first nodes, one for each of these polynomials, those that a marked node behind them is read by have these as
+-- their readings
+abbrev pub AreRead : List Node → List Bool → List (List Term) → Type 0
+AreRead nodes marks polys = (k n : ℕ) → k < length polys → length polys ≤ n → IsReader nodes marks n k
+    → polynomial nodes k ≡ slice_get polys k

@@ -1,0 +1,37 @@
+-- Polynomials: sums of monomials with coefficients.
+use Rattle.std.specs.Prelude.{◌≡◌, ◌≢◌, ℕ, ◌^◌, List, [], ◌∷◌, length, Result, Ok, Err, nat_lt, Bool, if◌then◌else◌, ⊤, ℤ, pos, negsuc}
+use Rattle.grind_monomials.specs.declared.order.Place.TheVariants.{Above}
+use Rattle.grind_monomials.specs.Order.{place}
+use Rattle.grind_monomials.specs.Monomials.{IsMonomial}
+use Rattle.grind_polynomials.specs.declared.poly.Term.{Term}
+use Rattle.grind_polynomials.specs.declared.poly.PolyRefusal.{PolyRefusal}
+use Rattle.grind_polynomials.specs.declared.poly.PolyRefusal.TheVariants.{Overflow}
+
+-- the monomial with this coefficient
+abbrev pub term_of : ℤ → List ℕ → Term
+term_of coefficient monomial = record { coefficient = coefficient; monomial = monomial }
+
+-- the first of the terms, if there is one, has a lesser monomial
+abbrev pub StartsBelow : List ℕ → List Term → Type 0
+StartsBelow monomial [] = ⊤
+StartsBelow monomial (term ∷ rest) = place monomial term.monomial ≡ Above
+
+-- the nodes of each monomial do not fall, no coefficient is 0, and the monomials fall strictly
+abbrev pub IsPoly : List Term → Type 0
+IsPoly [] = ⊤
+IsPoly (term ∷ rest) =
+    IsMonomial term.monomial × (term.coefficient ≢ pos 0) × StartsBelow term.monomial rest × IsPoly rest
+
+-- the degree of a polynomial: that of its first monomial, which is the greatest
+abbrev pub degree : List Term → ℕ
+degree [] = 0
+degree (term ∷ rest) = length term.monomial
+
+-- a degree that no product may have
+abbrev pub is_over : ℕ → Bool
+is_over degree = nat_lt 16 degree
+
+-- the number, where it fits in 128 bits
+unfoldable pub fit : ℤ → Result ℤ PolyRefusal
+fit (pos n) = if nat_lt n (2 ^ 127) then Ok (pos n) else Err Overflow
+fit (negsuc n) = if nat_lt n (2 ^ 127) then Ok (negsuc n) else Err Overflow

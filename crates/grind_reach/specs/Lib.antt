@@ -1,0 +1,4 @@
+pub mod Reached
+pub mod ReachedCases
+pub mod Marks
+pub mod MarksCases
