@@ -20,6 +20,3 @@ pub use laws::{
     multiples_have_their_values, opposites_have_their_values, poly_differences_have_their_values,
     poly_differences_stay,
 };
-
-#[cfg(test)]
-mod tests;

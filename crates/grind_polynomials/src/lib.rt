@@ -28,6 +28,3 @@ pub use poly::{Poly, PolyRefusal, Term};
 pub use reading::poly_of;
 pub use reduction::{Reduced, normal};
 pub use sum::add_product;
-
-#[cfg(test)]
-mod tests;

@@ -14,6 +14,3 @@ mod truths;
 pub use checker::{Verdict, check, check_line, derive};
 pub use claim::Claim;
 pub use proof::{Branch, Line, Proof, Rule};
-
-#[cfg(test)]
-mod tests;

@@ -15,6 +15,3 @@ pub mod values;
 pub use claims::claim_true;
 pub use respecting::respects;
 pub use values::{Overflow, Values};
-
-#[cfg(test)]
-mod tests;

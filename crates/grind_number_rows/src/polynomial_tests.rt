@@ -2,7 +2,7 @@
 ghost use Rattle.std.specs.Prelude.{◌≡◌, [], ◌∷◌, Some, IsTrue};
 ghost use Rattle.grind_term_graph.specs.Terms.{int, sort_at};
 
-use crate::{
+use grind_polynomials::{
     Factors, Poly, PolyRefusal, Reduced, add_product, factors_of, normal, poly_of, s_poly,
 };
 use grind_outside::List;

@@ -3,14 +3,14 @@ ghost use Rattle.std.specs.Prelude.{◌≡◌, ◌∷◌, [], Some};
 ghost use Rattle.grind_term_graph.specs.Shape.{IsShaped};
 ghost use Rattle.grind_term_graph.specs.Terms.{int, sort_at};
 
-use crate::bounds::{
+use grind_differences::bounds::{
     has_opposite, is_above, is_at_least, is_opposite_form, is_plus_one, is_same_form, is_within_cut,
 };
-use crate::differences::{
+use grind_differences::differences::{
     are_apart_by_reading, is_difference, is_difference_or_more, is_difference_plus_one,
     is_more_than_difference, is_number, is_poly_difference,
 };
-use crate::equations::{
+use grind_differences::equations::{
     form_of, is_multiple, is_other_than_zero, is_same_poly, multiplies_numbers,
 };
 use grind_linear_forms::{Form, FormRefusal, add_scaled};
