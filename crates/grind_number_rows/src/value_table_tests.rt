@@ -3,12 +3,12 @@ ghost use Rattle.std.specs.Prelude.{IsTrue, ◌<◌, All, length, IfOk};
 ghost use Rattle.grind_linear_forms.specs.declared.form.Part as parts;
 ghost use Rattle.grind_polynomials.specs.declared.poly.Term as terms;
 
-use grind_value_tables::{Overflow, Values, claim_true, respects};
 use grind_linear_forms::{Form, FormRefusal, scale};
 use grind_outside::{List, Memory};
 use grind_polynomials::{Poly, PolyRefusal, Term, add_product};
 use grind_proof_kernel::Claim;
 use grind_term_graph::{Args, FunId, Head, Node, NodeId, SortId, TermRefusal, TermTable};
+use grind_value_tables::{Overflow, Values, claim_true, respects};
 use std::alloc::Global;
 use std::test::Fail;
 
