@@ -16,3 +16,5 @@ pub mod ContentLemmas
 pub mod NormalLemmas
 pub mod GatherLemmas
 pub mod FactorLemmas
+pub mod FinalLists
+pub mod FinalLemmas

@@ -9,4 +9,5 @@ pub mod Pairs
 pub mod Reduction
 pub mod Ranks
 pub mod Gathering
+pub mod FinalFactors
 pub mod Laws
