@@ -28,7 +28,8 @@ use Rattle.grind_polynomials.proofs.Divisors.{weight-times_lead}
 use Rattle.grind_polynomials.proofs.ReductionLemmas.{reducer-none, reducer-cons, target-none, target-here, target-later, unit-nonzero, poly-rest}
 use Rattle.grind_polynomials.proofs.Descent.{found-mono, reducer-found, next-lower}
 use Rattle.grind_polynomials.proofs.NormalLemmas.{step-one, reduces-one}
-use Rattle.grind_polynomials.proofs.FinalLists.{IsPositive, positive-product, joined, times_all, joined-none, joined-start, AreOver, over-none, none-fits, all-moved, all-refused}
+use Rattle.grind_polynomials.proofs.FinalTerms.{IsPositive, positive-product}
+use Rattle.grind_polynomials.proofs.FinalLists.{joined, times_all, joined-none, joined-start, AreOver, over-none, none-fits, all-moved, all-refused}
 
 -- ---- what is found
 reducer-poly : (basis : List (List Term)) (m : List ℕ) (e : List Term) → ArePolys basis → reducer basis m ≡ Some e → IsPoly e

@@ -66,6 +66,7 @@ abbrev pub EachFits : List Term → Type 0
 EachFits [] = ⊤
 EachFits (term ∷ rest) = (fit term.coefficient ≡ Ok term.coefficient) × EachFits rest
 
+-- and so it is in each of the lists
 abbrev pub AllFit : List (List Term) → Type 0
 AllFit [] = ⊤
 AllFit (q ∷ qs) = EachFits q × AllFit qs

@@ -10,4 +10,5 @@ pub mod Reduction
 pub mod Ranks
 pub mod Gathering
 pub mod FinalFactors
+pub mod FinalCases
 pub mod Laws
