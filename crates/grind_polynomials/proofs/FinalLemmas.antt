@@ -114,7 +114,7 @@ moves-made : (basis : List (List Term)) (minus : Bool) (now : Reduced) (answer :
 moves-made basis minus now answer made (irreducible none) e = ([], none_left none)
 moves-made basis minus now answer made (step {next = next} steps later) e =
     let rest = moves-made basis minus next answer made later e in
-    let by : MovesBy minus basis now (move_of minus steps.found steps.step_is.divisor) next = record { steps = steps; move_is = refl; } in
+    let by : MovesBy minus basis now (move_of minus steps.found steps.step_is.divisor) next = record { steps = steps; move_is = refl } in
     (move_of minus steps.found steps.step_is.divisor ∷ rest.0, one_more by rest.1)
 moves-made basis minus now answer made (overflow breaks) e = absurd (ok-err answer made Overflow e refl)
 

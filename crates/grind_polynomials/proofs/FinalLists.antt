@@ -217,7 +217,7 @@ module _ (move : Move) (mono : IsMonomial move.monomial) (some : signed move.min
       }
 
   shared-closed : (b : List Term) (terms : List Term) → IsShared false false false b terms
-  shared-closed b terms = record { here = refl; rest = refl; divides = λ e. absurd (false≢true e); }
+  shared-closed b terms = record { here = refl; rest = refl; divides = λ e. absurd (false≢true e) }
 
   shared-hit : (b : List Term) (terms : List Term) → is_one (quotient (lead_monomial b) move.monomial) ≡ true → IsShared true true false b terms
   shared-hit b terms e = record {
