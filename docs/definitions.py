@@ -17,7 +17,7 @@ FILES = {
     "grind_reach": ["Reached", "Marks"],
     "grind_linear_forms": ["Forms", "Sums", "Cuts", "Readings", "Values", "Coefficients", "Naming", "Laws"],
     "grind_monomials": ["Monomials", "Order", "Counts", "Laws"],
-    "grind_polynomials": ["Polynomials", "Sums", "Readings", "Pairs", "Reduction", "Gathering", "Values", "Laws"],
+    "grind_polynomials": ["Polynomials", "Sums", "Readings", "Pairs", "Reduction", "Gathering", "FinalFactors", "Values", "Laws"],
     "grind_differences": ["Bounds", "Differences", "Equations", "Laws"],
     "grind_classes": ["Classes"],
     "grind_congruence": ["Derivable", "Congruence", "Edges", "Exact", "Asserted"],

@@ -44,7 +44,7 @@ within-degree (term ∷ rest) poly = (omega arith, within-starts term.monomial r
 
 -- ---- refusals
 -- a refusal that is made of an answer
-refused : {A B : Type 0} → (f : A → Result B PolyRefusal) (r : Result A PolyRefusal) (e : PolyRefusal) → and_then f r ≡ Err e
+pub refused : {A B : Type 0} → (f : A → Result B PolyRefusal) (r : Result A PolyRefusal) (e : PolyRefusal) → and_then f r ≡ Err e
     → (r ≡ Err e) ⊎ ((a : A) × (r ≡ Ok a) × (f a ≡ Err e))
 refused f (Ok a) e h = inr (a, refl, h)
 refused f (Err x) e h = inl (ap (λ (x : PolyRefusal). Err x) (same_Err (and_then f (Err x)) x e refl h))

@@ -29,7 +29,7 @@ use Rattle.grind_polynomials.proofs.ReductionLemmas.{unit-nonzero, one-empty, re
 use Rattle.grind_polynomials.proofs.RankLemmas.{low-product, low-quotient, rank-falls}
 
 -- ---- monomials
-place-itself : (m : List ℕ) → place m m ≡ Same
+pub place-itself : (m : List ℕ) → place m m ≡ Same
 place-itself m = place-one m m (omega arith) (omega arith) ∙ nodes-itself m
 
 -- ---- what of a list is still reduced
@@ -360,3 +360,18 @@ factor-nonzero found now next element some by before none =
     let product_is = fit_is (w.0 *ℤ now.factor) next.factor w.2 in
     before (int_mul-zero_out w.0 now.factor (sym product_is ∙ none)
     (λ e. unit-nonzero found by.divisor by.divisor_is element some (sym unit_is ∙ e)))
+
+-- ---- what a step tells
+pub found-mono : (basis : List (List Term)) (terms : List Term) (found : Target) → IsPoly terms → target basis terms ≡ Some found
+    → IsMonomial found.term.monomial
+found-mono basis terms found poly e = (is-found basis terms found poly e).mono
+
+pub reducer-found : (basis : List (List Term)) (terms : List Term) (found : Target) → IsPoly terms → target basis terms ≡ Some found
+    → reducer basis found.term.monomial ≡ Some found.element
+reducer-found basis terms found poly e = (is-found basis terms found poly e).by
+
+pub next-lower : (basis : List (List Term)) (found other : Target) (h : ℕ) (rest next : List Term) → IsTargetGcd found h
+    → target basis rest ≡ Some found → IsPoly rest → IsPoly found.element → found.element ≢ [] → rest_after found h rest ≡ Ok next
+    → target basis next ≡ Some other → place found.term.monomial other.term.monomial ≡ Above
+next-lower basis found other h rest next gcd found_is poly element some rest_is e =
+    calm-target basis found.term.monomial next other (calm-after basis found h rest next gcd found_is poly element some rest_is) e

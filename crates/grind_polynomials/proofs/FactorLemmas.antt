@@ -26,7 +26,7 @@ use Rattle.grind_polynomials.proofs.GatherLemmas.{moved-nil, moved-cons}
 use Rattle.grind_polynomials.proofs.NormalLemmas.{value-scaled, value-by, factor-made, reduces-one}
 
 -- ---- the reducing element
-target-by : (basis : List (List Term)) (terms : List Term) (found : Target) → target basis terms ≡ Some found
+pub target-by : (basis : List (List Term)) (terms : List Term) (found : Target) → target basis terms ≡ Some found
     → reducer basis found.term.monomial ≡ Some found.element
 target-by basis [] found e = absurd (none-some found (sym (target-none basis [] refl) ∙ e))
 target-by basis (t ∷ ts) found e = at_reducer (reducer basis t.monomial) refl (λ later. target-by basis ts found later)
@@ -39,7 +39,7 @@ target-by basis (t ∷ ts) found e = at_reducer (reducer basis t.monomial) refl 
         subst (λ (f : Target). reducer basis f.term.monomial ≡ Some f.element)
         (same_Some (target_of t b) found (sym (target-here basis t ts (t ∷ ts) b refl some) ∙ e)) some
 
-before-made : (q : Result (List Term) PolyRefusal) (rest : Result (List (List Term)) PolyRefusal) (all : List (List Term))
+pub before-made : (q : Result (List Term) PolyRefusal) (rest : Result (List (List Term)) PolyRefusal) (all : List (List Term))
     → before q rest ≡ Ok all → (first : List Term) × (others : List (List Term)) × (q ≡ Ok first) × (rest ≡ Ok others) × (first ∷ others ≡ all)
 before-made q rest all e =
     let one = made_of (λ first. and_then (λ all. Ok (first ∷ all)) rest) q all e in

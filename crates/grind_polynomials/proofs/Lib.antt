@@ -16,3 +16,6 @@ pub mod ContentLemmas
 pub mod NormalLemmas
 pub mod GatherLemmas
 pub mod FactorLemmas
+pub mod FinalTerms
+pub mod FinalLists
+pub mod FinalLemmas

@@ -79,10 +79,12 @@ pub data Gathers : List (List Term) → Bool → Reduced → List (List Term) �
   spilt : {basis : List (List Term)} {minus : Bool} {now : Reduced} {qs : List (List Term)}
       → SpillsWith minus basis now qs → Gathers basis minus now qs (Err Overflow)
 
+-- whether there are terms
 abbrev pub has_terms : List Term → Bool
 has_terms [] = false
 has_terms (term ∷ rest) = true
 
+-- the factors with these parts
 abbrev pub factors_of_parts : ℤ → ℤ → List (List Term) → Factors
 factors_of_parts divisor own list = record { divisor = divisor; own = own; list = list }
 

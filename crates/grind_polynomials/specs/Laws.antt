@@ -12,6 +12,7 @@ use Rattle.grind_polynomials.specs.declared.reduction.Reduced.{Reduced}
 use Rattle.grind_polynomials.specs.Reduction.{Reduces, IsNormal}
 use Rattle.grind_polynomials.specs.declared.factors.Factors.{Factors}
 use Rattle.grind_polynomials.specs.Gathering.{IsFactors, products_value}
+use Rattle.grind_polynomials.specs.FinalFactors.{IsFinal}
 use Rattle.grind_polynomials.specs.Sums.{sum_product}
 use Rattle.grind_polynomials.specs.Values.{poly_value, Vanishes}
 
@@ -66,3 +67,8 @@ FactorsHaveTheirValues =
     (normal.rest ≢ [] → factors.divisor *ℤ poly_value v normal.rest
     ≡ (factors.own *ℤ poly_value v p) +ℤ products_value v basis factors.list)
     × (normal.rest ≡ [] → (factors.own ≡ pos 0) × (factors.divisor *ℤ poly_value v p ≡ products_value v basis factors.list))
+
+-- a reduction has one list of factors, over whole numbers without bound
+abbrev pub FinalFactorsAreOne : Type 0
+FinalFactorsAreOne =
+    (basis : List (List Term)) (p : List Term) (one other : Factors) → IsFinal basis p one → IsFinal basis p other → one ≡ other

@@ -4,6 +4,7 @@ ghost use Rattle.grind_polynomials.specs.declared.poly.PolyRefusal.TheVariants.{
 ghost use Rattle.grind_polynomials.specs.Reduction.{reduced_of, target, Reduces, Breaks};
 ghost use Rattle.grind_polynomials.specs.Ranks.{Descends};
 ghost use Rattle.grind_polynomials.specs.Gathering as gathering;
+ghost use Rattle.grind_polynomials.specs.FinalFactors as whole;
 
 use crate::content::content_of;
 use crate::gathering::moved_factors;
@@ -30,8 +31,35 @@ pub struct Factors {
 /// # Errors
 ///
 /// `Overflow` exactly where a coefficient on the way to the normal form does not fit in 128 bits, which is judged first, or
-/// one on the way to a factor, or the divisor. `Degree` never comes, and `Memory` comes where there is none.
+/// a number in the factors does not, which are made over whole numbers without bound. `Degree` never comes, and `Memory`
+/// comes where there is none.
 pub fn factors_of(alloc: Global, p: &Poly, basis: &List<Poly>) -> Result<Factors, PolyRefusal>
+    requires { All (λ b. b ≢ []) basis.now }
+    ensures ok { IfOk result (λ factors. gathering.IsFactors basis.now p.now factors) }
+    ensures exact { IfOk result (λ factors. whole.IsFinal basis.now p.now factors) }
+    ensures fits { IfOk result (λ factors. whole.FactorsFit factors) }
+    ensures overflow { IsErrOf result PolyRefusal.Overflow → Reduces basis.now (reduced_of (pos 1) p.now) (Err Overflow) ⊎ whole.Exceeds basis.now p.now }
+    ensures degree { IsErrOf result PolyRefusal.Degree → ⊥ }
+{
+    let _terms = p.terms();
+    are_polys(basis.as_slice());
+    let factors = made_factors(alloc, p, basis)?;
+    Ok(factors)
+}
+
+// Each element is a polynomial.
+fn are_polys(basis: &[Poly])
+    ensures { whole.ArePolys basis.now }
+{
+    let mut rest = basis;
+    while let Some((b, tail)) = rest.split_first() {
+        let _terms = b.terms();
+        rest = tail;
+    }
+}
+
+// The same factors, refused where a number on the way to one of them does not fit.
+fn made_factors(alloc: Global, p: &Poly, basis: &List<Poly>) -> Result<Factors, PolyRefusal>
     requires { All (λ b. b ≢ []) basis.now }
     ensures ok { IfOk result (λ factors. gathering.IsFactors basis.now p.now factors) }
     ensures overflow { IsErrOf result PolyRefusal.Overflow → Reduces basis.now (reduced_of (pos 1) p.now) (Err Overflow) ⊎ gathering.Spills basis.now p.now }

@@ -41,3 +41,8 @@ pub fn reductions_have_one_answer()
 pub fn factors_have_their_values()
     ensures { laws.FactorsHaveTheirValues }
 {}
+
+/// A reduction has one list of factors, over whole numbers without bound.
+pub fn final_factors_are_one()
+    ensures { laws.FinalFactorsAreOne }
+{}

@@ -19,9 +19,9 @@ pub mod sum;
 
 pub use factors::{Factors, factors_of};
 pub use laws::{
-    factors_have_their_values, normal_forms_have_their_values, readings_have_their_values,
-    readings_stay, reductions_have_one_answer, s_polynomials_have_their_values,
-    sums_have_their_values, zero_rests_have_factor_one,
+    factors_have_their_values, final_factors_are_one, normal_forms_have_their_values,
+    readings_have_their_values, readings_stay, reductions_have_one_answer,
+    s_polynomials_have_their_values, sums_have_their_values, zero_rests_have_factor_one,
 };
 pub use pairs::s_poly;
 pub use poly::{Poly, PolyRefusal, Term};

@@ -1,21 +1,30 @@
-use Rattle.std.proofs.Common.{inr, ◌<◌, List, length, Ok, pos, rules, subst}
-use Rattle.grind_polynomials.specs.declared.poly.Term.{Term}
+use Rattle.std.proofs.Common.{◌⊎◌, inl, inr, Ok, Err, FitsSigned, IsErrOf, pos, rules, subst}
+use Rattle.std.specs.Int.{w128}
+use Rattle.grind_polynomials.specs.declared.poly.PolyRefusal.TheVariants.{Overflow}
 use Rattle.grind_polynomials.specs.Reduction.{Reduces, reduced_of}
-use Rattle.grind_polynomials.proofs.Fits.{large-out}
-use Rattle.grind_polynomials.proofs.GatherLemmas.{has-some}
+use Rattle.grind_polynomials.specs.FinalFactors.{ArePolys, Exceeds}
+use Rattle.grind_polynomials.proofs.Fits.{fit_in}
+use Rattle.grind_polynomials.proofs.FinalLemmas.{final-factors, final-fits, spills-exceeds}
 use Rattle.grind_polynomials.proofs.factors.factors_of.Goals as goal
 
-pub returns-then-content-gt170141183460469231731687303715884105727-clause-overflow :
-    goal.returns-then-content-gt170141183460469231731687303715884105727-clause-overflow
-returns-then-content-gt170141183460469231731687303715884105727-clause-overflow c =
-    let some : 0 < length c.terms.result.now = search rules in λ e. inr (record {
-      made = c.in_ok-made.made;
-      content = c.content_of-content.result;
-      made_is = subst (λ (basis : List (List Term)). Reduces basis (reduced_of (pos 1) c.args.p.now) (Ok c.in_ok-made.made))
-          c.as_slice.ensures.value c.in_ok-made.ensures.ok;
-      content_is = c.content_of-content.ensures.content;
-      refused = inr (
-        has-some c.in_ok-made.made.rest (subst (λ (terms : List Term). 0 < length terms) c.terms.ensures.value some),
-        large-out c.content_of-content.result c.if-content-gt170141183460469231731687303715884105727.true,
-      );
-    })
+pub returns-in_err-factors-clause-overflow : goal.returns-in_err-factors-clause-overflow
+returns-in_err-factors-clause-overflow c =
+    let polys = subst ArePolys c.as_slice.ensures.value c.are_polys.ensures in
+    let leads : IsErrOf c.made_factors.result Overflow → Reduces c.args.basis.now (reduced_of (pos 1) c.args.p.now) (Err Overflow)
+    ⊎ Exceeds c.args.basis.now c.args.p.now = λ e. elim (c.made_factors.ensures.overflow e) [
+      | inl reduces ↦ inl reduces
+      | inr spills ↦ inr (spills-exceeds c.args.basis.now polys c.requires c.args.p.now c.terms-terms.ensures.keeps spills)
+    ] in search rules
+
+pub returns-clause-exact : goal.returns-clause-exact
+returns-clause-exact c =
+    let polys = subst ArePolys c.as_slice.ensures.value c.are_polys.ensures in
+    final-factors c.args.basis.now polys c.requires c.args.p.now c.in_ok-factors.factors c.terms-terms.ensures.keeps c.in_ok-factors.ensures.ok
+
+pub returns-clause-fits : goal.returns-clause-fits
+returns-clause-fits c =
+    let polys = subst ArePolys c.as_slice.ensures.value c.are_polys.ensures in
+    let divisor : FitsSigned w128 c.in_ok-factors.factors.divisor = search rules in
+    let own : FitsSigned w128 c.in_ok-factors.factors.own = search rules in
+    final-fits c.args.basis.now polys c.requires c.args.p.now c.in_ok-factors.factors c.terms-terms.ensures.keeps c.in_ok-factors.ensures.ok
+    (fit_in c.in_ok-factors.factors.divisor divisor) (fit_in c.in_ok-factors.factors.own own)
