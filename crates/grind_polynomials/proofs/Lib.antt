@@ -3,6 +3,7 @@ pub mod Putting
 pub mod Products
 pub mod Falling
 pub mod Rows
+pub mod RunningLemmas
 pub mod SumValues
 pub mod Degrees
 pub mod ReadingLemmas

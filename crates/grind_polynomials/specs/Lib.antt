@@ -1,5 +1,7 @@
 pub mod Polynomials
 pub mod Sums
+pub mod Keys
+pub mod Running
 pub mod Rows
 pub mod RowCases
 pub mod Values

@@ -6,6 +6,7 @@
 mod content;
 pub mod factors;
 mod gathering;
+mod keys;
 pub mod laws;
 mod multiples;
 mod numbers;
@@ -14,6 +15,7 @@ pub mod poly;
 mod put;
 pub mod reading;
 pub mod reduction;
+mod running;
 mod scaling;
 pub mod sum;
 

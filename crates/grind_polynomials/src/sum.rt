@@ -1,14 +1,15 @@
 //! Products of polynomials, added to others.
-ghost use Rattle.std.specs.Prelude.{◌≡◌, ◌+◌, [], length, pos, true, false, Ok, Err, IfOk, IsErrOf};
+ghost use Rattle.std.specs.Prelude.{◌≡◌, ◌+◌, [], length, pos, true, false, Ok, Err, IfOk, OnOk, IsErrOf};
 ghost use Rattle.grind_polynomials.specs.declared.poly.PolyRefusal.TheVariants.{Overflow, Degree};
-ghost use Rattle.grind_monomials.specs.Monomials.{IsMonomial, product};
-ghost use Rattle.grind_polynomials.specs.Polynomials.{IsPoly, is_over};
-ghost use Rattle.grind_polynomials.specs.Rows.{AreAbove, ArePassed, all_of};
+ghost use Rattle.grind_polynomials.specs.Polynomials.{is_over};
+ghost use Rattle.grind_polynomials.specs.Running.{terms_of};
 ghost use Rattle.grind_polynomials.specs.Sums.{with_multiples, with_product, with_products, with_all_products, sum_product};
 
-use crate::multiples::{add_multiple, add_multiples};
+use crate::multiples::add_multiples;
+use crate::numbers::product_of;
 use crate::poly::{Poly, PolyRefusal, Term, copied};
-use crate::put::{Parts, joined, parts_of};
+use crate::running::{Running, add, started, written};
+use grind_monomials::product;
 use grind_outside::List;
 use grind_term_graph::NodeId;
 use std::alloc::Global;
@@ -25,8 +26,9 @@ pub fn add_product(alloc: Global, a: &Poly, q: &Poly, b: &Poly) -> Result<Poly, 
     ensures overflow { IsErrOf result PolyRefusal.Overflow → sum_product a.now q.now b.now ≡ Err Overflow }
     ensures degree { IsErrOf result PolyRefusal.Degree → sum_product a.now q.now b.now ≡ Err Degree }
 {
-    let start = copied(alloc, a.terms())?;
-    let terms = add_all_products(alloc, q.terms(), b.terms(), start)?;
+    let mut sum = started(alloc, a.terms())?;
+    add_all_products(alloc, q.terms(), b.terms(), &mut sum)?;
+    let terms = written(alloc, sum)?;
     Ok(Poly { terms })
 }
 
@@ -56,21 +58,18 @@ fn add_all_products(
     alloc: Global,
     qs: &[Term],
     bs: &[Term],
-    terms: List<Term>,
-) -> Result<List<Term>, PolyRefusal>
-    requires first { IsPoly qs.now }
-    requires second { IsPoly bs.now }
-    ensures ok { IfOk result (λ all. with_all_products qs.now bs.now terms ≡ Ok all) }
-    ensures overflow { IsErrOf result PolyRefusal.Overflow → with_all_products qs.now bs.now terms ≡ Err Overflow }
-    ensures degree { IsErrOf result PolyRefusal.Degree → with_all_products qs.now bs.now terms ≡ Err Degree }
+    sum: &mut Running,
+) -> Result<(), PolyRefusal>
+    ensures ok { OnOk result (with_all_products qs.now bs.now (terms_of sum.old) ≡ Ok (terms_of sum.new)) }
+    ensures overflow { IsErrOf result PolyRefusal.Overflow → with_all_products qs.now bs.now (terms_of sum.old) ≡ Err Overflow }
+    ensures degree { IsErrOf result PolyRefusal.Degree → with_all_products qs.now bs.now (terms_of sum.old) ≡ Err Degree }
 {
-    let mut all = terms;
     let mut rest = qs;
     while let Some((q, tail)) = rest.split_first() {
-        all = add_products(alloc, q, bs, all)?;
+        add_products(alloc, q, bs, sum)?;
         rest = tail;
     }
-    Ok(all)
+    Ok(())
 }
 
 // Each product of a term with one of others, added in turn.
@@ -78,37 +77,35 @@ fn add_products(
     alloc: Global,
     q: &Term,
     bs: &[Term],
-    terms: List<Term>,
-) -> Result<List<Term>, PolyRefusal>
-    requires monomial { IsMonomial q.now.monomial }
-    requires poly { IsPoly bs.now }
-    ensures ok { IfOk result (λ all. with_products q.now bs.now terms ≡ Ok all) }
-    ensures overflow { IsErrOf result PolyRefusal.Overflow → with_products q.now bs.now terms ≡ Err Overflow }
-    ensures degree { IsErrOf result PolyRefusal.Degree → with_products q.now bs.now terms ≡ Err Degree }
+    sum: &mut Running,
+) -> Result<(), PolyRefusal>
+    ensures ok { OnOk result (with_products q.now bs.now (terms_of sum.old) ≡ Ok (terms_of sum.new)) }
+    ensures overflow { IsErrOf result PolyRefusal.Overflow → with_products q.now bs.now (terms_of sum.old) ≡ Err Overflow }
+    ensures degree { IsErrOf result PolyRefusal.Degree → with_products q.now bs.now (terms_of sum.old) ≡ Err Degree }
 {
-    let mut parts = parts_of(alloc, terms)?;
     let mut rest = bs;
     while let Some((b, tail)) = rest.split_first() {
-        parts = add_one(alloc, q, b, parts)?;
+        add_one(alloc, q, b, sum)?;
         rest = tail;
     }
-    let all = joined(parts)?;
-    Ok(all)
+    Ok(())
 }
 
-// The product of two terms, added to parts of a sum, and done.
-fn add_one(alloc: Global, q: &Term, b: &Term, parts: Parts) -> Result<Parts, PolyRefusal>
-    requires { AreAbove (product q.now.monomial b.now.monomial) parts.done }
-    ensures ok { IfOk result (λ all. with_product q.now b.now (all_of parts) ≡ Ok (all_of all)) }
-    ensures passed { IfOk result (λ all. ArePassed (product q.now.monomial b.now.monomial) all.done) }
-    ensures overflow { IsErrOf result PolyRefusal.Overflow → with_product q.now b.now (all_of parts) ≡ Err Overflow }
-    ensures degree { IsErrOf result PolyRefusal.Degree → with_product q.now b.now (all_of parts) ≡ Err Degree }
+// The product of two terms, added.
+fn add_one(alloc: Global, q: &Term, b: &Term, sum: &mut Running) -> Result<(), PolyRefusal>
+    ensures ok { OnOk result (with_product q.now b.now (terms_of sum.old) ≡ Ok (terms_of sum.new)) }
+    ensures overflow { IsErrOf result PolyRefusal.Overflow → with_product q.now b.now (terms_of sum.old) ≡ Err Overflow }
+    ensures degree { IsErrOf result PolyRefusal.Degree → with_product q.now b.now (terms_of sum.old) ≡ Err Degree }
 {
     if is_over(q.monomial.as_slice(), b.monomial.as_slice()) {
         return Err(PolyRefusal::Degree);
     }
-    let all = add_multiple(alloc, false, q.coefficient, q.monomial.as_slice(), b, parts)?;
-    Ok(all)
+    let Some(number) = product_of(q.coefficient, b.coefficient) else {
+        return Err(PolyRefusal::Overflow);
+    };
+    let monomial = product(alloc, q.monomial.as_slice(), b.monomial.as_slice())?;
+    add(sum, number, monomial)?;
+    Ok(())
 }
 
 // Whether the degrees of two monomials are together over 16.
