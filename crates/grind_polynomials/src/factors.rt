@@ -28,11 +28,13 @@ pub struct Factors {
 /// The factors of the normal form of a polynomial by a basis: where there is a rest, the divisor times the rest is `own`
 /// times the polynomial and the sum of the products; else the divisor times the polynomial is the sum of the products.
 ///
+/// They are those to which the reduction leads over whole numbers without bound: an element's factor has, for each monomial
+/// that it reduced, that monomial divided by the element's leading one, as often as the monomial was taken in the end.
+///
 /// # Errors
 ///
-/// `Overflow` exactly where a coefficient on the way to the normal form does not fit in 128 bits, which is judged first, or
-/// a number in the factors does not, which are made over whole numbers without bound. `Degree` never comes, and `Memory`
-/// comes where there is none.
+/// `Overflow` exactly where a coefficient on the way to the normal form does not fit in 128 bits, or the reduction ends and a
+/// number in these factors does not. `Degree` never comes, and `Memory` comes where there is none.
 pub fn factors_of(alloc: Global, p: &Poly, basis: &List<Poly>) -> Result<Factors, PolyRefusal>
     requires { All (λ b. b ≢ []) basis.now }
     ensures ok { IfOk result (λ factors. gathering.IsFactors basis.now p.now factors) }
@@ -47,7 +49,7 @@ pub fn factors_of(alloc: Global, p: &Poly, basis: &List<Poly>) -> Result<Factors
     Ok(factors)
 }
 
-// Each element is a polynomial.
+// Each element is a polynomial: what a reading of its terms tells.
 fn are_polys(basis: &[Poly])
     ensures { whole.ArePolys basis.now }
 {
