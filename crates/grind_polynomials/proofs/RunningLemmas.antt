@@ -1,5 +1,5 @@
 -- A running sum: one coefficient is put at a key, and the terms have the monomial so often more.
-use Rattle.std.proofs.Common.{◌≡◌, ℕ, zero, suc, List, [], ◌∷◌, ◌++◌, ℤ, pos, negsuc, ◌+ℤ◌, Option, Some, None, Result, Ok, Err, Bool, false, cond, sym, ap, ◌∙◌, refl, subst}
+use Rattle.std.proofs.Common.{◌≡◌, zero, suc, List, [], ◌∷◌, ◌++◌, ℤ, pos, negsuc, ◌+ℤ◌, Option, Some, Result, Ok, Err, Bool, cond, sym, ap, ◌∙◌, refl, subst}
 use Rattle.std.proofs.lemmas.Bool.{cond-false}
 use Rattle.std.proofs.lemmas.List.{append_assoc}
 use Rattle.std.proofs.lemmas.Map.{NonePasses, lookup-none}
@@ -11,23 +11,18 @@ use Rattle.std.specs.List.Sorted.{IsStrictlySortedBy}
 use Rattle.std.specs.Map.{keys_of, lookup, remove_entry}
 use Rattle.std.specs.Option.{unwrap_or}
 use Rattle.std.specs.Ordering.{is_eq, match_ordering}
-use Rattle.std.specs.declared.cmp.Ordering.{Ordering}
-use Rattle.std.specs.declared.cmp.Ordering.TheVariants.{Less, Equal, Greater}
 use Rattle.grind_monomials.specs.declared.order.Place.{Place}
 use Rattle.grind_monomials.specs.declared.order.Place.TheVariants.{Above, Same, Below}
 use Rattle.grind_monomials.specs.Order.{place}
-use Rattle.grind_monomials.specs.Monomials.{IsMonomial}
 use Rattle.grind_monomials.proofs.Orders.{place-same, place-chain}
 use Rattle.grind_polynomials.specs.declared.keys.Key.{Key}
 use Rattle.grind_polynomials.specs.declared.poly.Term.{Term}
 use Rattle.grind_polynomials.specs.declared.poly.PolyRefusal.{PolyRefusal}
-use Rattle.grind_polynomials.specs.declared.poly.PolyRefusal.TheVariants.{Overflow}
-use Rattle.grind_polynomials.specs.Polynomials.{IsPoly, StartsBelow, term_of, fit}
+use Rattle.grind_polynomials.specs.Polynomials.{IsPoly, term_of, fit}
 use Rattle.grind_polynomials.specs.Keys.{order_of, descending_total}
 use Rattle.grind_polynomials.specs.Running.{key_order, entry_terms, coefficient_at, with_coefficient}
-use Rattle.grind_polynomials.specs.Sums.{and_then, in_front, front, behind, with_more}
+use Rattle.grind_polynomials.specs.Sums.{and_then, in_front, behind, with_more}
 use Rattle.grind_polynomials.proofs.Putting.{more-nil, more-above, more-same, more-below, zero_first}
-use Rattle.grind_polynomials.proofs.Falling.{starts-chain}
 
 pub key_order_total : IsTotalOrder key_order
 key_order_total = on_total (λ k. k.monomial) descending_total

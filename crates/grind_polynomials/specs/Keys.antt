@@ -1,7 +1,7 @@
 -- Monomials as keys of a map, the greatest first, and that this order is total.
-use Rattle.std.proofs.Common.{◌≡◌, ℕ, List, length, arith, sym, ap, ◌∙◌, refl}
+use Rattle.std.proofs.Common.{◌≡◌, ℕ, List, arith, sym, ap, ◌∙◌, refl}
 use Rattle.std.specs.Cmp.{IsTotalOrder}
-use Rattle.std.specs.Ordering.{ordering_reverse, is_lt, is_gt}
+use Rattle.std.specs.Ordering.{ordering_reverse}
 use Rattle.std.specs.declared.cmp.Ordering.{Ordering}
 use Rattle.std.specs.declared.cmp.Ordering.TheVariants.{Less, Equal, Greater}
 use Rattle.grind_monomials.specs.declared.order.Place.{Place}
@@ -10,7 +10,7 @@ use Rattle.grind_monomials.specs.Order.{place}
 use Rattle.grind_monomials.proofs.Clauses.{place-one}
 use Rattle.grind_monomials.proofs.Orders.{same-not_above, nodes-itself, place-same, place-turn, place-chain}
 
--- where a key comes, before which another one stands so
+-- how a key is to another whose monomial stands so beside its own
 abbrev pub order_of : Place → Ordering
 order_of Above = Greater
 order_of Same = Equal
@@ -21,7 +21,7 @@ abbrev pub descending : List ℕ → List ℕ → Ordering
 descending a b = order_of (place b a)
 
 -- ---- the order is total
-pub place-itself : (a : List ℕ) → place a a ≡ Same
+place-itself : (a : List ℕ) → place a a ≡ Same
 place-itself a = place-one a a (omega arith) (omega arith) ∙ nodes-itself a
 
 turn-above : (a b : List ℕ) → place a b ≡ Above → place b a ≡ Below

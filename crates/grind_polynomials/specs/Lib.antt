@@ -2,6 +2,7 @@ pub mod Polynomials
 pub mod Sums
 pub mod Keys
 pub mod Running
+pub mod RunningCases
 pub mod Rows
 pub mod RowCases
 pub mod Values

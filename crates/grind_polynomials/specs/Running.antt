@@ -1,5 +1,5 @@
 -- A running sum: a map from monomials to their coefficients, the greatest monomial first.
-use Rattle.std.specs.Prelude.{ℕ, zero, suc, List, [], ◌∷◌, ℤ, pos, negsuc}
+use Rattle.std.specs.Prelude.{zero, suc, List, [], ◌∷◌, ℤ, pos, negsuc}
 use Rattle.std.specs.BTreeMap.{BTreeMap, insert_entry, is_at}
 use Rattle.std.specs.Map.{lookup, remove_entry}
 use Rattle.std.specs.Option.{unwrap_or}

@@ -73,12 +73,7 @@ fn add_all_products(
 }
 
 // Each product of a term with one of others, added in turn.
-fn add_products(
-    alloc: Global,
-    q: &Term,
-    bs: &[Term],
-    sum: &mut Running,
-) -> Result<(), PolyRefusal>
+fn add_products(alloc: Global, q: &Term, bs: &[Term], sum: &mut Running) -> Result<(), PolyRefusal>
     ensures ok { OnOk result (with_products q.now bs.now (terms_of sum.old) ≡ Ok (terms_of sum.new)) }
     ensures overflow { IsErrOf result PolyRefusal.Overflow → with_products q.now bs.now (terms_of sum.old) ≡ Err Overflow }
     ensures degree { IsErrOf result PolyRefusal.Degree → with_products q.now bs.now (terms_of sum.old) ≡ Err Degree }
