@@ -40,6 +40,13 @@ def powers(size):
     return theory(names, [], " * ".join(["(w + 2*x - 3*y + z)"] * size))
 
 
+def products(size):
+    """The product of two sums of so many atoms, none of which is in both."""
+    one = [f"x{i}" for i in range(size)]
+    other = [f"y{i}" for i in range(size)]
+    return theory(one + other, [], f"{balanced(one)} * {balanced(other)}")
+
+
 def reductions(size):
     """The square of a sum of so many atoms, with its 50 rules for squares."""
     names = [f"x{i}" for i in range(51)]
@@ -51,6 +58,7 @@ def reductions(size):
 FAMILIES = [
     ("linear", "`sums` of atoms", sums, [10, 100, 1_000, 10_000]),
     ("poly", "`powers` of a sum of four atoms", powers, [1, 2, 4, 8, 16]),
+    ("poly", "`products` of two sums of atoms", products, [50, 100, 200, 400]),
     ("normal", "`reductions` by 50 elements", reductions, [5, 10, 20, 40]),
 ]
 
