@@ -1,5 +1,5 @@
 -- The factors that are gathered are those over whole numbers without bound.
-use Rattle.std.proofs.Common.{◌≡◌, ◌≢◌, ◌⊎◌, inl, inr, ℕ, zero, suc, ◌/◌, Bool, true, false, List, [], ◌∷◌, length, All, ℤ, pos, ◌*ℤ◌, unsigned_abs, Option, Some, None, Result, Ok, Err, arith, sym, ap, ◌∙◌, refl, subst}
+use Rattle.std.proofs.Common.{◌≡◌, ◌≢◌, inl, inr, ℕ, zero, suc, ◌/◌, Bool, true, false, List, [], ◌∷◌, length, All, ℤ, pos, ◌*ℤ◌, unsigned_abs, Option, Some, None, Result, Ok, Err, arith, sym, ap, ◌∙◌, refl, subst}
 use Rattle.std.specs.Int.{IsGcd}
 use Rattle.std.proofs.lemmas.Bool.{cond-true, cond-false}
 use Rattle.std.proofs.lemmas.List.Elements.{All-head, All-tail}
@@ -20,9 +20,9 @@ use Rattle.grind_polynomials.specs.declared.factors.Factors.{Factors}
 use Rattle.grind_polynomials.specs.Polynomials.{IsPoly, fit}
 use Rattle.grind_polynomials.specs.Sums.{signed}
 use Rattle.grind_polynomials.specs.Pairs.{divided_by, lead_coefficient, lead_monomial}
-use Rattle.grind_polynomials.specs.Reduction.{reduced_of, is_one, is_negative, reducer, Target, target_of, target, IsTargetGcd, unit, weight, Steps, Reduces, irreducible, step, overflow, IsContent}
-use Rattle.grind_polynomials.specs.Gathering.{Move, move_of, factors_moved, no_factors, StepsWith, SpillsWith, Gathers, ended, moved, spilt, has_terms, factors_by, IsFactors, Spills}
-use Rattle.grind_polynomials.specs.FinalFactors.{MovesBy, Moves, none_left, one_more, units, taken, shared_out, IsFinal, EachFits, AllFit, FactorsFit, Exceeds, ArePolys}
+use Rattle.grind_polynomials.specs.Reduction.{reduced_of, is_one, is_negative, reducer, Target, target_of, target, unit, weight, Steps, Reduces, irreducible, step, overflow, IsContent}
+use Rattle.grind_polynomials.specs.Gathering.{Move, move_of, factors_moved, no_factors, Gathers, ended, moved, spilt, has_terms, factors_by, IsFactors, Spills}
+use Rattle.grind_polynomials.specs.FinalFactors.{MovesBy, Moves, none_left, one_more, units, taken, shared_out, IsFinal, AllFit, FactorsFit, Exceeds, FactorsOverflow, ArePolys}
 use Rattle.grind_polynomials.proofs.Fits.{ok-err, same_Ok}
 use Rattle.grind_polynomials.proofs.Divisors.{weight-times_lead}
 use Rattle.grind_polynomials.proofs.ReductionLemmas.{reducer-none, reducer-cons, target-none, target-here, target-later, unit-nonzero, poly-rest}
@@ -133,6 +133,15 @@ final-one basis p one other first second =
     first.factors_are
     ∙ sym (λ i. factors_by (made i) (content i) (shared_out basis (taken (moves i))) (has_terms (made i).rest))
     ∙ sym second.factors_are
+
+-- where there are factors that fit, nothing overflows
+pub none-overflows : (basis : List (List Term)) (p : List Term) (factors : Factors) → IsFinal basis p factors → FactorsFit factors
+    → FactorsOverflow basis p → ⊥
+none-overflows basis p factors final fits overflows = elim overflows [
+  | inl breaks ↦ ok-err (Ok final.made) final.made Overflow refl
+      (reduces-one basis (reduced_of (pos 1) p) (Ok final.made) (Err Overflow) final.made_is breaks)
+  | inr exceeds ↦ exceeds.over (subst FactorsFit (final-one basis p factors exceeds.factors final exceeds.final_is) fits)
+]
 
 -- ---- along the steps
 module _ (basis : List (List Term)) (polys : ArePolys basis) (some : All (λ b. b ≢ []) basis) where

@@ -1,7 +1,8 @@
 -- The factors to which a reduction leads, over whole numbers without bound.
-use Rattle.std.specs.Prelude.{◌≡◌, ℕ, List, [], ◌∷◌, None, Ok, Bool, if◌then◌else◌, ⊤, ℤ, pos, ◌*ℤ◌}
+use Rattle.std.specs.Prelude.{◌≡◌, ◌⊎◌, ℕ, List, [], ◌∷◌, None, Ok, Err, Bool, if◌then◌else◌, ⊤, ℤ, pos, ◌*ℤ◌}
 use Rattle.grind_monomials.specs.Monomials.{quotient}
 use Rattle.grind_polynomials.specs.declared.poly.Term.{Term}
+use Rattle.grind_polynomials.specs.declared.poly.PolyRefusal.TheVariants.{Overflow}
 use Rattle.grind_polynomials.specs.declared.reduction.Reduced.{Reduced}
 use Rattle.grind_polynomials.specs.declared.factors.Factors.{Factors}
 use Rattle.grind_polynomials.specs.Polynomials.{term_of, IsPoly, fit}
@@ -82,6 +83,10 @@ pub record Exceeds (basis : List (List Term)) (p : List Term) : Type 0 where
   pub factors : Factors
   pub final_is : IsFinal basis p factors
   pub over : FactorsFit factors → ⊥
+
+-- a coefficient on the way to the normal form does not fit, or a number in the final factors does not
+abbrev pub FactorsOverflow : List (List Term) → List Term → Type 0
+FactorsOverflow basis p = Reduces basis (reduced_of (pos 1) p) (Err Overflow) ⊎ Exceeds basis p
 
 -- each element is a polynomial
 abbrev pub ArePolys : List (List Term) → Type 0

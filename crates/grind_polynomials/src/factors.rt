@@ -40,7 +40,8 @@ pub fn factors_of(alloc: Global, p: &Poly, basis: &List<Poly>) -> Result<Factors
     ensures ok { IfOk result (λ factors. gathering.IsFactors basis.now p.now factors) }
     ensures exact { IfOk result (λ factors. whole.IsFinal basis.now p.now factors) }
     ensures fits { IfOk result (λ factors. whole.FactorsFit factors) }
-    ensures overflow { IsErrOf result PolyRefusal.Overflow → Reduces basis.now (reduced_of (pos 1) p.now) (Err Overflow) ⊎ whole.Exceeds basis.now p.now }
+    ensures within { IfOk result (λ factors. whole.FactorsOverflow basis.now p.now → ⊥) }
+    ensures overflow { IsErrOf result PolyRefusal.Overflow → whole.FactorsOverflow basis.now p.now }
     ensures degree { IsErrOf result PolyRefusal.Degree → ⊥ }
 {
     let _terms = p.terms();
