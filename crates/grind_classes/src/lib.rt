@@ -8,6 +8,3 @@ mod lists;
 mod roots;
 
 pub use classes::{Classes, Merged};
-
-#[cfg(test)]
-mod tests;

@@ -11,6 +11,3 @@ mod search;
 
 pub use closure::{Closure, at_rest_is_exact, fits_longer};
 pub use edge::{Edge, Found};
-
-#[cfg(test)]
-mod tests;

@@ -19,6 +19,3 @@ pub use laws::{
 };
 pub use reading::linear_of;
 pub use sum::{add_scaled, scale};
-
-#[cfg(test)]
-mod tests;

@@ -25,6 +25,3 @@ pub use shelf::Shelf;
 pub use sink::{Sink, write_whole};
 pub use steady::{SteadyShelf, SteadySink};
 pub use stream_sink::StreamSink;
-
-#[cfg(test)]
-mod tests;

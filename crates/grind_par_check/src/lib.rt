@@ -7,6 +7,3 @@ pub mod judge;
 
 pub use check::check_parallel;
 pub use judge::{Judge, first_bad};
-
-#[cfg(test)]
-mod tests;

@@ -9,8 +9,6 @@ mod forms;
 mod lines;
 mod rules;
 mod terms;
-#[cfg(test)]
-mod tests;
 mod words;
 
 use grind_outside::{List, Memory};

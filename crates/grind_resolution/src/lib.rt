@@ -22,6 +22,3 @@ pub use resolver::resolve;
 pub use scope::Scope;
 pub use sizes::size_of;
 pub use sorts::sort_of;
-
-#[cfg(test)]
-mod tests;

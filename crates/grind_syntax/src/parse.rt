@@ -109,6 +109,3 @@ pub fn parse(alloc: Global, text: &[u8], tokens: &List<Token>) -> Result<List<De
     }
     Ok(decls)
 }
-
-#[cfg(test)]
-mod tests;

@@ -14,6 +14,3 @@ pub use head::Head;
 pub use ids::{FunId, NodeId, SortId};
 pub use node::Node;
 pub use table::{TermRefusal, TermTable};
-
-#[cfg(test)]
-mod tests;

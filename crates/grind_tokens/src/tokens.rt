@@ -173,6 +173,3 @@ pub fn names_are_plain()
 pub fn tokens_are_pieces()
     ensures { TokensArePieces }
 {}
-
-#[cfg(test)]
-mod tests;

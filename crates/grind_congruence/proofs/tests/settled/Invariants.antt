@@ -1,5 +1,0 @@
-use Rattle.grind_congruence.specs.Congruence.{Fits}
-use Rattle.grind_congruence.proofs.tests.settled.Given as goal
-
-abbrev pub invariant-loop : goal.invariant-loop
-invariant-loop l = Fits l.closure.lists l.fn.terms.nodes
