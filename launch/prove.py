@@ -21,6 +21,7 @@ NOT_PROVED = 2
 LOG = os.path.join(sources.OUT, "prove.log")
 # What `rt ci` says as a crate ends.
 CRATE_ENDS = re.compile(r"^rt: (\w+) (proved|is kept|NOT PROVED)(?:: its library (\w+) failed)?")
+CRATE_WAITS = re.compile(r"^rt: (\w+): another run on this machine is proving the same")
 TESTS_FAIL = re.compile(r"^rt: (\w+): its tests (?:are NOT PROVED|FAILED)")
 USAGE = "usage: ./prove [--anew]"
 
@@ -39,28 +40,38 @@ class Progress:
 
     def __init__(self, crates, folder):
         self.crates, self.folder = crates, folder
-        self.begun, self.ended, self.failed, self.notes = {}, set(), [], []
+        self.begun, self.told, self.failed, self.notes = {}, set(), [], []
 
     def name(self, crate):
         return f"crate {self.begun[crate][0]} of {len(self.crates)}: {crate}"
 
     def begin(self, crate):
-        if crate in self.crates and crate not in self.begun:
+        if crate not in self.begun:
             self.begun[crate] = len(self.begun) + 1, time.monotonic()
-            return True
-        return False
+
+    def seconds(self, crate):
+        return time.monotonic() - self.begun[crate][1]
 
     def look(self):
-        """Tells which crates have begun: `rt ci` then makes a folder for what the crate's check writes."""
+        """Tells which crates are being proved: `rt ci` makes a folder for what the check of a crate writes."""
         for crate in self.crates:
-            if os.path.isdir(f"{self.folder}/crates/{crate}/out") and self.begin(crate):
+            if os.path.isdir(f"{self.folder}/crates/{crate}/out"):
+                self.begin(crate)
+        for crate in self.begun:
+            # (what an earlier run has proved is there in a moment)
+            if crate not in self.told and self.seconds(crate) > 3:
+                self.told.add(crate)
                 say(self.name(crate))
 
     def read(self, line):
         """Takes a line of `rt ci`."""
-        found, tests = CRATE_ENDS.match(line), TESTS_FAIL.match(line)
+        found, waits, tests = (it.match(line) for it in (CRATE_ENDS, CRATE_WAITS, TESTS_FAIL))
         if line.startswith("rt: note: ") and "cannot be used" in line:
             self.notes.append(line[len("rt: note: ") :].strip())
+        if waits and waits[1] in self.crates:
+            self.begin(waits[1])
+            self.told.add(waits[1])
+            say(f"{self.name(waits[1])} is being proved by another run on this machine; waiting for that")
         if tests:
             self.failed.append(tests[1])
         if found and found[1] in self.crates:
@@ -68,9 +79,9 @@ class Progress:
 
     def end(self, crate, how, lacks):
         self.begin(crate)
-        self.ended.add(crate)
+        self.told.add(crate)
         if how == "proved":
-            say(f"{self.name(crate)} is proved, in {time.monotonic() - self.begun[crate][1]:.0f} s")
+            say(f"{self.name(crate)} is proved, in {self.seconds(crate):.0f} s")
         elif how == "is kept":
             say(f"{self.name(crate)} was proved by an earlier run on this machine")
         elif lacks:
