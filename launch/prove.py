@@ -95,8 +95,8 @@ def lines_of(child, progress):
     """The lines that a command writes, as they come."""
     told, left = child.stdout.fileno(), b""
     while True:
+        progress.look()
         if not select.select([told], [], [], 0.5)[0]:
-            progress.look()
             continue
         data = os.read(told, 1 << 16)
         *whole, left = (left + data).split(b"\n")
