@@ -2,6 +2,7 @@
 
 import os
 import re
+import resource
 import shutil
 import signal
 import stat
@@ -16,13 +17,15 @@ NO_ANSWER = 70
 CANNOT_WRITE = 5
 # What of a pipe or a device is read, in bytes.
 MOST_READ = 1 << 26
+# The stack that a run of the sources may take, in bytes: its checks make it deeper than that of the program.
+STACK = 1 << 27
 # Names that `rt try` keeps for itself where the program runs.
 TAKEN = ("program", "stdin", "stdout", "stderr")
 ENDED = re.compile(rb"^run=ended status=(\d{1,3}) .*proved=no\n\Z", re.M)
 OF_THE_RUN = (b"interpreter:", b"checked:", b"races:", b"run=")
 REASONS = (
     (b"wrote more than 1048576 bytes", "the output has more than 1 MiB, the most that a run of unproved sources may write"),
-    (b"seconds", "the run took more than 60 seconds, the most that one of unproved sources may take"),
+    (b"time limit", "the run took more than 60 seconds, the most that one of unproved sources may take"),
 )
 
 
@@ -100,14 +103,23 @@ def notes_in(said):
 
 def reason_in(said):
     """Why a run gave no answer."""
-    lines = [it for it in said.splitlines() if it.strip()]
-    for line in lines:
-        for words, reason in REASONS:
-            if line.startswith(b"checked: no-answer") and words in line:
-                return reason
-    told = [it for it in lines if not it.startswith(b"run=")]
-    last = (told or [b"nothing was said"])[0].decode(errors="replace")
-    return f"`rt try` failed here, or the toolchain is not whole ({last[:200]})"
+    lines = [it for it in said.splitlines() if it.strip() and not it.startswith(b"run=")]
+    of_run = next((it for it in lines if it.startswith(b"checked:")), b"")
+    for words, reason in REASONS:
+        if words in of_run:
+            return reason
+    if of_run:
+        return f"the run ended otherwise than by itself ({of_run[:200].decode(errors='replace')})"
+    told = (lines or [b"it said nothing"])[0][:200].decode(errors="replace")
+    return f"`rt try` failed here, or the toolchain is not whole ({told})"
+
+
+def raise_stack():
+    """Lets the run have a deep stack, where the system allows that."""
+    soft, hard = resource.getrlimit(resource.RLIMIT_STACK)
+    wanted = STACK if hard == resource.RLIM_INFINITY else min(STACK, hard)
+    if soft != resource.RLIM_INFINITY and soft < wanted:
+        resource.setrlimit(resource.RLIMIT_STACK, (wanted, hard))
 
 
 def write_whole(to, data):
@@ -152,6 +164,7 @@ def answer(words):
     if not shutil.which("rt"):
         return no_answer("there is no command `rt`, Rattle's, which this and ./prove need")
     children.stop_on_signals()
+    raise_stack()
     try:
         room = children.new_room("answer")
     except OSError as error:
