@@ -22,6 +22,7 @@ LOG = os.path.join(sources.OUT, "prove.log")
 # What `rt ci` says as a crate ends.
 CRATE_ENDS = re.compile(r"^rt: (\w+) (proved|is kept|NOT PROVED)(?:: its library (\w+) failed)?")
 CRATE_WAITS = re.compile(r"^rt: (\w+): another run on this machine is proving the same")
+NOTE = re.compile(r"^rt: note: .*\b(kept|disk)\b")
 TESTS_FAIL = re.compile(r"^rt: (\w+): its tests (?:are NOT PROVED|FAILED)")
 USAGE = "usage: ./prove [--anew]"
 
@@ -66,7 +67,7 @@ class Progress:
     def read(self, line):
         """Takes a line of `rt ci`."""
         found, waits, tests = (it.match(line) for it in (CRATE_ENDS, CRATE_WAITS, TESTS_FAIL))
-        if line.startswith("rt: note: ") and "cannot be used" in line:
+        if NOTE.match(line):
             self.notes.append(line[len("rt: note: ") :].strip())
         if waits and waits[1] in self.crates:
             self.begin(waits[1])
