@@ -41,7 +41,7 @@ class Progress:
 
     def __init__(self, crates, folder):
         self.crates, self.folder = crates, folder
-        self.begun, self.told, self.failed, self.notes = {}, set(), [], []
+        self.begun, self.told, self.failed, self.waiting, self.notes = {}, set(), [], [], []
 
     def name(self, crate):
         return f"crate {self.begun[crate][0]} of {len(self.crates)}: {crate}"
@@ -86,7 +86,7 @@ class Progress:
         elif how == "is kept":
             say(f"{self.name(crate)} was proved by an earlier run on this machine")
         elif lacks:
-            say(f"{self.name(crate)} waits for {lacks}")
+            self.waiting.append(crate)
         else:
             self.failed.append(crate)
             say(f"{self.name(crate)} is NOT PROVED")
@@ -135,7 +135,8 @@ def prove_in(room, anew):
     for note in progress.notes:
         say(note)
     if progress.failed:
-        return cannot(f"{', '.join(dict.fromkeys(progress.failed))}: not proved; {os.path.relpath(LOG)} says why")
+        wait = f", and {len(progress.waiting)} above wait for that" if progress.waiting else ""
+        return cannot(f"{', '.join(dict.fromkeys(progress.failed))}: not proved{wait}; {os.path.relpath(LOG)} says why")
     if status:
         return cannot(f"`rt ci` ended with status {status} ({last[:200]}); {os.path.relpath(LOG)} has all that it said")
     sources.keep(os.path.join(repository, "crates", sources.PROGRAM, "out", sources.PROGRAM), total)
