@@ -151,6 +151,9 @@ def prove(anew):
     room = children.new_room("prove")
     try:
         status = prove_in(room, anew)
+    except SystemExit:
+        cannot("interrupted; call ./prove again, and it goes on from what is proved")
+        raise
     finally:
         children.remove_room(room)
     if status:
@@ -180,9 +183,6 @@ def main(words):
             return prove(bool(words))
         except OSError as error:
             return cannot(str(error))
-        except SystemExit as stopped:
-            print("prove: interrupted; call ./prove again, and it goes on from what is proved", file=sys.stderr, flush=True)
-            return stopped.code
 
 
 if __name__ == "__main__":
