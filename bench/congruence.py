@@ -3,7 +3,7 @@
 
 Usage: bench/congruence.py [PROGRAM]
 
-PROGRAM is crates/grind_main/out/grind_main, which `./grind` builds. For each family and size the table gives the
+PROGRAM is out/grind_main, which `./prove` builds. For each family and size the table gives the
 seconds of the fastest of three runs and the growth against half the size, and the same of z3 in the same run.
 """
 
@@ -113,10 +113,10 @@ FAMILIES = [
 
 def main():
     top = os.path.dirname(os.path.dirname(os.path.abspath(__file__)))
-    built = os.path.join(top, "crates", "grind_main", "out", "grind_main")
+    built = os.path.join(top, "out", "grind_main")
     program = os.path.abspath(sys.argv[1]) if len(sys.argv) > 1 else built
     if not os.access(program, os.X_OK):
-        sys.exit(f"{program}: not built yet; ./grind builds it")
+        sys.exit(f"{program}: not built yet; ./prove builds it")
     other = shutil.which("z3")
     print("| family | size | seconds | growth | z3 seconds | z3 growth |")
     print("|---|---|---|---|---|---|")

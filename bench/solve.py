@@ -3,7 +3,7 @@
 
 Usage: bench/solve.py [PROGRAM]
 
-PROGRAM is crates/grind_main/out/grind_main, which `./grind` builds. For each family of files the
+PROGRAM is out/grind_main, which `./prove` builds. For each family of files the
 table gives the bytes of the file, the seconds of the fastest of three runs, the growth against the
 file of half the size, and the peak memory as a multiple of the file.
 """
@@ -117,10 +117,10 @@ def run(program, path):
 
 def main():
     top = os.path.dirname(os.path.dirname(os.path.abspath(__file__)))
-    built = os.path.join(top, "crates", "grind_main", "out", "grind_main")
+    built = os.path.join(top, "out", "grind_main")
     program = os.path.abspath(sys.argv[1]) if len(sys.argv) > 1 else built
     if not os.access(program, os.X_OK):
-        sys.exit(f"{program}: not built yet; ./grind builds it")
+        sys.exit(f"{program}: not built yet; ./prove builds it")
     print("| family | bytes | seconds | growth | memory / file |")
     print("|---|---|---|---|---|")
     with tempfile.TemporaryDirectory() as folder:
