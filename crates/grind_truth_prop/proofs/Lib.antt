@@ -1,0 +1,10 @@
+pub mod KernelLemmas
+pub mod TermLemmas
+pub mod PairLemmas
+pub mod WayLemmas
+pub mod UnitLemmas
+pub mod StepLemmas
+pub mod TableLemmas
+pub mod LawLemmas
+pub mod SettledLemmas
+pub mod DrawnLemmas

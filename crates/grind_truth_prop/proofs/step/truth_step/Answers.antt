@@ -1,0 +1,8 @@
+use Rattle.grind_truth_prop.proofs.StepLemmas.{rest_is, rest_of}
+use Rattle.grind_truth_prop.proofs.step.truth_step.Goals as goal
+
+pub returns-clause-rest : goal.returns-clause-rest
+returns-clause-rest c = (
+  rest_of c.args.known.now c.args.classes.now c.in_ok-step.step c.in_ok-step.ensures,
+  rest_is c.args.known.now c.args.classes.now c.in_ok-step.step c.in_ok-step.ensures,
+)

@@ -1,0 +1,16 @@
+use Rattle.std.specs.Prelude.{length, refl}
+use Rattle.std.proofs.Common.{arith}
+use Rattle.grind_truth_prop.specs.Equations.{HasNoEquation}
+use Rattle.grind_truth_prop.proofs.TermLemmas.{below_next}
+use Rattle.grind_truth_prop.proofs.UnitLemmas.{no_equation}
+use Rattle.grind_truth_prop.proofs.units.equations.first_equation.Goals as goal
+
+pub loop-number-preserved : goal.loop-number-preserved
+loop-number-preserved c =
+    below_next (HasNoEquation c.args.known.now c.args.classes.now) c.loop-number.number c.loop-number.invariant
+    (rw c.new-node.ensures at (c.in_default.ensures.none refl))
+
+pub returns-clause-none : goal.returns-clause-none
+returns-clause-none c = λ _.
+    no_equation c.args.known.now c.args.classes.now (length c.args.known.now.terms.nodes) refl c.requires.fits
+    (λ k less. c.loop-number.invariant k (omega (arith, less)))

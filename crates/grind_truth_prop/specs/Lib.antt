@@ -1,0 +1,13 @@
+pub mod Kernel
+pub mod Given
+pub mod Evidence
+pub mod Classed
+pub mod Sides
+pub mod Equations
+pub mod Connectives
+pub mod Splits
+pub mod Steps
+pub mod Pairs
+pub mod Ways
+pub mod Findings
+pub mod Laws
