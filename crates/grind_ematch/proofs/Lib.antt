@@ -1,0 +1,10 @@
+pub mod Along
+pub mod SlotLemmas
+pub mod Algebra
+pub mod UnionLemmas
+pub mod JoinLemmas
+pub mod PatternLemmas
+pub mod SceneLemmas
+pub mod NodeLemmas
+pub mod ListLemmas
+pub mod MatchLemmas
