@@ -6,4 +6,4 @@ pub mod check;
 pub mod judge;
 
 pub use check::check_parallel;
-pub use judge::{Judge, first_bad};
+pub use judge::{Judge, first_bad, one_answer};
