@@ -23,7 +23,7 @@ FILES = {
     "grind_congruence": ["Derivable", "Congruence", "Edges", "Exact", "Asserted"],
     "grind_schemes": ["Labels", "Goals", "Limits", "Schemes", "Theorems", "Instances", "Laws"],
     "grind_proof_kernel": ["Claims", "Tables", "LinearRules", "PolyRules", "Rules", "Typing", "Judgement", "Laws"],
-    "grind_par_check": ["Judges"],
+    "grind_par_check": ["Judges", "Laws"],
     "grind_explain": ["Explained"],
     "grind_case_split": ["Congruences", "Writing", "Building", "Given", "Laws"],
     "grind_value_tables": ["Respects", "Truths", "Evaluations", "Overflows", "Laws"],

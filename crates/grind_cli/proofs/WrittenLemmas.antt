@@ -1,14 +1,15 @@
 -- Reports that are written block by block.
-use Rattle.std.proofs.Common.{◌≡◌, ◌↔◌, ◌<◌, ◌^◌, ◌&&◌, ℕ, Bool, true, IsTrue, List, [], ◌∷◌, ◌++◌, length, flat_map, Option, refl, ap, sym, subst, ◌∙◌, append_assoc, inl, inr, arith}
+use Rattle.std.proofs.Common.{◌≡◌, ◌↔◌, ◌<◌, ◌^◌, ◌&&◌, ℕ, Bool, true, IsTrue, List, [], ◌∷◌, ◌++◌, length, flat_map, Option, refl, ap, sym, subst, ◌∙◌, append_assoc, append-nil, inl, inr, arith}
 use Rattle.std.proofs.lemmas.Bool.{and_parts}
+use Rattle.std.proofs.lemmas.Grind.{flat_map-append}
 use Rattle.grind_outside.specs.Outside.{appended, IsFront}
 use Rattle.grind_schemes.specs.Goals.{GoalData}
 use Rattle.grind_schemes.specs.declared.lemmas.Lemmas.{Lemmas}
 use Rattle.grind_signature.specs.Signatures.{SignatureData}
 use Rattle.std.proofs.lemmas.List.Elements.{All-from_recursion}
 use Rattle.grind_report.specs.Report.{Block, BlockFits, block_bytes, header_bytes, end_bytes}
-use Rattle.grind_cli.specs.Answers.{AreClosed, AnswersAll, WritesReport, WritesPart}
-use Rattle.grind_cli.specs.Written.{WritesBlock, WritesBlocks, WritesSomeBlocks, WritesFront, BeginsBlock}
+use Rattle.grind_cli.specs.Answers.{AreClosed, AnswersGoal, AnswersAll, WritesReport, WritesPart}
+use Rattle.grind_cli.specs.Written.{AwaitsGoals, WritesBlock, WritesBlocks, WritesSomeBlocks, WritesFront, BeginsBlock}
 use Rattle.grind_report.proofs.ReportParts.{report_of_parts}
 use Rattle.grind_cli.proofs.NotesLemmas.{appended-append, appended-nil}
 
@@ -66,6 +67,40 @@ module _ (signature : SignatureData) (lemmas : Lemmas) where
   length_all_answers [] (b ∷ bs) a = absurd a
   length_all_answers (g ∷ gs) [] a = absurd a
   length_all_answers (g ∷ gs) (b ∷ bs) a = let e = length_all_answers gs bs a.1 in omega arith
+
+  -- one more block answers one more goal
+  AnswersAll-more : (done : List GoalData) (blocks : List Block) (goal : GoalData) (block : Block) → AnswersAll signature lemmas done blocks
+      → AnswersGoal signature lemmas goal block → AnswersAll signature lemmas (done ++ goal ∷ []) (blocks ++ block ∷ [])
+  AnswersAll-more [] [] goal block all this = (this, tt)
+  AnswersAll-more [] (b ∷ bs) goal block all this = absurd all
+  AnswersAll-more (g ∷ gs) [] goal block all this = absurd all
+  AnswersAll-more (g ∷ gs) (b ∷ bs) goal block all this = (all.0, AnswersAll-more gs bs goal block all.1 this)
+
+  -- the bytes of one more block
+  blocks-more : (blocks : List Block) (block : Block) → flat_map block_bytes blocks ++ block_bytes block ≡ flat_map block_bytes (blocks ++ block ∷ [])
+  blocks-more blocks block =
+      sym (flat_map-append block_bytes blocks (block ∷ []) ∙ ap (λ l. flat_map block_bytes blocks ++ l) (append-nil (block_bytes block)))
+
+  -- the header was written, and every goal is still to come
+  pub AwaitsGoals-all : (goals : List GoalData) (old now : Option (List ℕ)) → now ≡ appended old header_bytes → AwaitsGoals signature lemmas goals goals now
+  AwaitsGoals-all goals old now header =
+      ([], old, [], record { goals_are = refl; answers = tt; written = header ∙ ap (λ l. appended old l) (sym (append-nil header_bytes)) })
+
+  -- the next goal's block was written
+  pub AwaitsGoals-next : (goals : List GoalData) (goal : GoalData) (rest : List GoalData) (now next : Option (List ℕ)) (closed : Bool) (block : Block)
+      → AwaitsGoals signature lemmas goals (goal ∷ rest) now → WritesBlock signature lemmas goal now next closed block → AwaitsGoals signature lemmas goals rest next
+  AwaitsGoals-next goals goal rest now next closed block (done, before, blocks, far) b =
+      let body = flat_map block_bytes blocks in (
+        done ++ goal ∷ [],
+        before,
+        blocks ++ block ∷ [],
+        record {
+          goals_are = far.goals_are ∙ sym (append_assoc done (goal ∷ []) rest);
+          answers = AnswersAll-more done blocks goal block far.answers b.answers;
+          written = b.written ∙ ap (λ o. appended o (block_bytes block)) far.written ∙ appended-append before (header_bytes ++ body) (block_bytes block)
+              ∙ ap (λ l. appended before l) (append_assoc header_bytes body (block_bytes block) ∙ ap (λ l. header_bytes ++ l) (blocks-more blocks block));
+        },
+      )
 
   -- blocks stand there for the goals before the rest: what is written for the rest completes them
   pub record IsOnTheWay (goals : List GoalData) (old : Option (List ℕ)) (rest : List GoalData) (now : Option (List ℕ)) (closed : Bool) : Type 0 where

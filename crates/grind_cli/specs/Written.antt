@@ -1,5 +1,5 @@
 -- What was written of a report.
-use Rattle.std.specs.Prelude.{◌≡◌, ◌↔◌, ℕ, List, flat_map, Option, Bool, IsTrue}
+use Rattle.std.specs.Prelude.{◌≡◌, ◌↔◌, ℕ, List, flat_map, ◌++◌, Option, Bool, IsTrue}
 use Rattle.std.specs.List.{AllByRecursion}
 use Rattle.grind_outside.specs.Outside.{appended, IsFront}
 use Rattle.grind_schemes.specs.Goals.{GoalData}
@@ -7,7 +7,7 @@ use Rattle.grind_schemes.specs.declared.lemmas.Lemmas.{Lemmas}
 use Rattle.grind_report.specs.declared.report.Outcome.{Outcome}
 use Rattle.grind_report.specs.declared.report.Outcome.TheVariants as outcomes
 use Rattle.grind_signature.specs.Signatures.{SignatureData}
-use Rattle.grind_report.specs.Report.{Block, BlockFits, block_bytes}
+use Rattle.grind_report.specs.Report.{Block, BlockFits, block_bytes, header_bytes}
 use Rattle.grind_cli.specs.Answers.{AnswersGoal, AnswersAll, BeginsGoal, IsClosed, IsPartOfBlocks}
 
 -- some first bytes of the line were written
@@ -47,3 +47,14 @@ pub record WritesBlocks (signature : SignatureData) (lemmas : Lemmas) (goals : L
 -- some first bytes of such blocks were written
 abbrev pub WritesSomeBlocks : SignatureData → Lemmas → List GoalData → Option (List ℕ) → Option (List ℕ) → Type 0
 WritesSomeBlocks signature lemmas goals old new = (piece : List ℕ) × (new ≡ appended old piece) × IsPartOfBlocks signature lemmas goals piece
+
+-- the goals are those that are done and then the rest; and the header was written, and a block for each that is done
+pub record IsWrittenSoFar (signature : SignatureData) (lemmas : Lemmas) (goals rest : List GoalData) (now : Option (List ℕ)) (done : List GoalData) (before : Option (List ℕ)) (blocks : List Block) : Type 0 where
+  pub goals_are : goals ≡ done ++ rest
+  pub answers : AnswersAll signature lemmas done blocks
+  pub written : now ≡ appended before (header_bytes ++ flat_map block_bytes blocks)
+
+-- what was written ends with the header and a block for each goal before the rest
+abbrev pub AwaitsGoals : SignatureData → Lemmas → List GoalData → List GoalData → Option (List ℕ) → Type 0
+AwaitsGoals signature lemmas goals rest now =
+    (done : List GoalData) × (before : Option (List ℕ)) × (blocks : List Block) × IsWrittenSoFar signature lemmas goals rest now done before blocks

@@ -3,6 +3,7 @@
 
 pub mod ending;
 pub mod notes;
+pub mod program;
 pub mod reader;
 pub mod run;
 pub mod solve;

@@ -1,12 +1,10 @@
 //! The report of a theory, written goal by goal.
-ghost use Rattle.std.specs.Prelude.{◌≡◌, ◌≤◌, ◌<◌, ◌^◌, ◌↔◌, ℕ, List as Sequence, [], length, IfOk, OnOk, OnErr, IsTrue};
-ghost use Rattle.std.specs.List.{AllByRecursion};
+ghost use Rattle.std.specs.Prelude.{◌≡◌, ◌≤◌, ◌<◌, ◌^◌, ◌↔◌, ℕ, List as Sequence, [], ◌∷◌, length, IfOk, OnOk, OnErr, IsTrue};
 ghost use Rattle.grind_outside.specs.Outside.{CountsFault, OnPutFailed, UnlessPutFailed, appended};
-ghost use Rattle.grind_signature.specs.Signatures.{IsDeclared};
 ghost use Rattle.grind_report.specs.Report.{Block, BlockFits, Report, header_bytes, block_bytes, end_bytes};
 ghost use Rattle.grind_cli.specs.Answers.{AnswersGoal, IsClosed, AreClosed, WritesReport, WritesPart};
-ghost use Rattle.grind_theory.specs.Theories.{AreDeclared};
-ghost use Rattle.grind_cli.specs.Written.{WritesFront, WritesBlock, BeginsBlock, SpellsBlock, IsClosedOutcome, WritesBlocks, WritesSomeBlocks};
+ghost use Rattle.grind_theory.specs.Theories.{AreDeclared, IsGoalDeclared};
+ghost use Rattle.grind_cli.specs.Written.{AwaitsGoals, WritesFront, WritesBlock, BeginsBlock, SpellsBlock, IsClosedOutcome, WritesBlocks, WritesSomeBlocks};
 
 use crate::solve::solve_goal;
 use grind_outside::{List, Memory, Sink, SinkRefusal, write_whole};
@@ -15,8 +13,16 @@ use grind_schemes::{Goal, Lemmas};
 use grind_signature::signature::Signature;
 use std::alloc::Global;
 
-/// Solves the goals and writes their report, each block as soon as its goal is solved. Says whether
-/// every goal is closed.
+/// What a report is of.
+#[derive(Drop)]
+struct Contents<'a> {
+    signature: &'a Signature,
+    lemmas: &'a Lemmas,
+    goals: &'a [Goal],
+}
+
+/// Solves the goals and writes their report: the header before the first goal is solved, and each
+/// block as soon as its goal is. Says whether every goal is closed.
 ///
 /// # Errors
 ///
@@ -43,7 +49,12 @@ pub fn write_report<K: Sink>(
     if let Err(refusal) = write_header(alloc, out) {
         return Err(refusal);
     }
-    let closed = match write_blocks(alloc, signature, lemmas, goals, out) {
+    let contents = Contents {
+        signature,
+        lemmas,
+        goals,
+    };
+    let closed = match write_blocks(alloc, &contents, out) {
         Ok(closed) => closed,
         Err(refusal) => return Err(refusal),
     };
@@ -81,29 +92,31 @@ fn write_end<K: Sink>(alloc: Global, count: u32, out: &mut K) -> Result<(), Sink
     write_whole(out, line.as_slice())
 }
 
-/// Writes a block for each goal. Says whether every goal is closed.
+/// Writes a block for each goal, after the header. Says whether every goal is closed.
 fn write_blocks<K: Sink>(
     alloc: Global,
-    signature: &Signature,
-    lemmas: &Lemmas,
-    goals: &[Goal],
+    contents: &Contents<'_>,
     out: &mut K,
 ) -> Result<bool, SinkRefusal>
-    requires { AreDeclared signature.now goals.now }
+    requires declared { AreDeclared contents.now.signature.now contents.now.goals.now }
+    requires header { AwaitsGoals contents.now.signature.now contents.now.lemmas.now contents.now.goals.now
+        contents.now.goals.now (K.written out.old) }
     ensures ok { IfOk result (λ closed. (blocks : Sequence Block)
-        × WritesBlocks signature.now lemmas.now goals.now (K.written out.old) (K.written out.new) blocks
+        × WritesBlocks contents.now.signature.now contents.now.lemmas.now contents.now.goals.now
+        (K.written out.old) (K.written out.new) blocks
         × (IsTrue closed ↔ AreClosed blocks)) }
     ensures err { OnErr result
-        (WritesSomeBlocks signature.now lemmas.now goals.now (K.written out.old) (K.written out.new)) }
+        (WritesSomeBlocks contents.now.signature.now contents.now.lemmas.now contents.now.goals.now
+        (K.written out.old) (K.written out.new)) }
 
     ensures failed { OnPutFailed result (CountsFault (K.faults out.old) (K.faults out.new)) }
     ensures quiet { UnlessPutFailed result (K.faults out.new ≡ K.faults out.old) }
     ensures never_falls { K.faults out.old ≤ K.faults out.new }
 {
-    let mut rest = goals;
+    let mut rest = contents.goals;
     let mut closed = true;
     while let Some((goal, tail)) = rest.split_first() {
-        match write_block(alloc, signature, lemmas, goal, out) {
+        match write_block(alloc, contents, goal, tail, out) {
             Ok(this) => closed = closed && this,
             Err(refusal) => return Err(refusal),
         }
@@ -112,25 +125,29 @@ fn write_blocks<K: Sink>(
     Ok(closed)
 }
 
-/// Solves a goal and writes its block. Says whether it is closed.
+/// Solves a goal and writes its block, before any goal of the tail is solved. Says whether it is
+/// closed.
 fn write_block<K: Sink>(
     alloc: Global,
-    signature: &Signature,
-    lemmas: &Lemmas,
+    contents: &Contents<'_>,
     goal: &Goal,
+    tail: &[Goal],
     out: &mut K,
 ) -> Result<bool, SinkRefusal>
-    requires { AllByRecursion (IsDeclared signature.now goal.now.constants goal.now.terms.nodes) goal.now.terms.nodes }
+    requires declared { IsGoalDeclared contents.now.signature.now goal.now }
+    requires before { AwaitsGoals contents.now.signature.now contents.now.lemmas.now contents.now.goals.now
+        (goal.now ∷ tail.now) (K.written out.old) }
     ensures ok { IfOk result (λ closed. (block : Block)
-        × WritesBlock signature.now lemmas.now goal.now (K.written out.old) (K.written out.new) closed block) }
+        × WritesBlock contents.now.signature.now contents.now.lemmas.now goal.now
+        (K.written out.old) (K.written out.new) closed block) }
     ensures err { OnErr result
-        (BeginsBlock signature.now lemmas.now goal.now (K.written out.old) (K.written out.new)) }
+        (BeginsBlock contents.now.signature.now contents.now.lemmas.now goal.now (K.written out.old) (K.written out.new)) }
 
     ensures failed { OnPutFailed result (CountsFault (K.faults out.old) (K.faults out.new)) }
     ensures quiet { UnlessPutFailed result (K.faults out.new ≡ K.faults out.old) }
     ensures never_falls { K.faults out.old ≤ K.faults out.new }
 {
-    let Ok((closed, bytes)) = block_of(alloc, signature, lemmas, goal) else {
+    let Ok((closed, bytes)) = block_of(alloc, contents, goal, tail, out) else {
         return Err(SinkRefusal::Memory);
     };
     if let Err(refusal) = write_whole(out, bytes.as_slice()) {
@@ -139,18 +156,23 @@ fn write_block<K: Sink>(
     Ok(closed)
 }
 
-/// Solves a goal. Says whether it is closed, and gives the bytes of its block.
-fn block_of(
+/// Solves a goal, once the header and the blocks of the goals before it stand on `out`. Says
+/// whether it is closed, and gives the bytes of its block.
+fn block_of<K: Sink>(
     alloc: Global,
-    signature: &Signature,
-    lemmas: &Lemmas,
+    contents: &Contents<'_>,
     goal: &Goal,
+    _tail: &[Goal],
+    _out: &K,
 ) -> Result<(bool, List<u8>), Memory>
-    requires { AllByRecursion (IsDeclared signature.now goal.now.constants goal.now.terms.nodes) goal.now.terms.nodes }
-    ensures { IfOk result (λ made. (block : Block) × SpellsBlock signature.now lemmas.now goal.now made.0 made.1 block) }
+    requires declared { IsGoalDeclared contents.now.signature.now goal.now }
+    requires before { AwaitsGoals contents.now.signature.now contents.now.lemmas.now contents.now.goals.now
+        (goal.now ∷ _tail.now) (K.written _out.now) }
+    ensures { IfOk result (λ made. (block : Block)
+        × SpellsBlock contents.now.signature.now contents.now.lemmas.now goal.now made.0 made.1 block) }
 {
-    let outcome = solve_goal(alloc, lemmas, goal)?;
-    let bytes = render_block(alloc, signature, goal, &outcome)?;
+    let outcome = solve_goal(alloc, contents.lemmas, goal)?;
+    let bytes = render_block(alloc, contents.signature, goal, &outcome)?;
     let closed = is_closed(&outcome);
     Ok((closed, bytes))
 }

@@ -1,2 +1,4 @@
+pub mod JudgeLemmas
 pub mod LineLemmas
 pub mod ShareLemmas
+pub mod VerdictLemmas

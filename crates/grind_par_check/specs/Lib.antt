@@ -1,3 +1,4 @@
 pub mod Judges
-pub mod Runs
+pub mod Laws
 pub mod Lines
+pub mod Runs

@@ -17,6 +17,13 @@ abbrev pub IsFoundInRun : (ℕ → Type 0) → ℕ → ℕ → Option ℕ → Ty
 IsFoundInRun holds from to None = IsTrueRun holds from to
 IsFoundInRun holds from to (Some place) = IsFirstBadInRun holds from to place
 
--- one item of the run was refused
-abbrev pub IsRefusedInRun : (ℕ → Type 0) → ℕ → ℕ → Type 0
-IsRefusedInRun refuses from to = (i : ℕ) × (from ≤ i) × (i < to) × refuses i
+-- the item at this place stands in the run and was refused, and each of the run before it is true
+pub record IsFirstRefusedInRun (holds refuses : ℕ → Type 0) (from to place : ℕ) : Type 0 where
+  pub begins : from ≤ place
+  pub stands : place < to
+  pub refused : refuses place
+  pub before : (i : ℕ) → from ≤ i → i < place → holds i
+
+-- one item of the run was refused, and each of the run before it is true
+abbrev pub IsRefusedInRun : (ℕ → Type 0) → (ℕ → Type 0) → ℕ → ℕ → Type 0
+IsRefusedInRun holds refuses from to = (place : ℕ) × IsFirstRefusedInRun holds refuses from to place

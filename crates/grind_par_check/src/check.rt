@@ -2,6 +2,7 @@
 ghost use Rattle.std.specs.Prelude.{◌≡◌, ◌≤◌, ◌<◌, ◌↔◌, IsTrue, IfOk, MatchOption, length};
 ghost use Rattle.grind_proof_kernel.specs.Typing.{HasTerms, TypedLine};
 ghost use Rattle.grind_proof_kernel.specs.Judgement.{HasGoodBranches, IsFirstBadBranch, IsRight};
+ghost use Rattle.grind_par_check.specs.Laws.{OneVerdict};
 ghost use Rattle.grind_par_check.specs.Lines.{BeginsWithTerms};
 
 use crate::judge::{Judge, first_bad};
@@ -44,6 +45,12 @@ pub fn check_parallel(
         None => Ok(Verdict::Typed),
     }
 }
+
+#[tactic(auto, using(crate::proofs::VerdictLemmas::one_verdict))]
+/// A proof has one right verdict.
+pub fn one_verdict()
+    ensures { OneVerdict }
+{}
 
 /// The first bad branch, where there is one.
 fn first_bad_branch(proof: &Proof) -> Option<u32>

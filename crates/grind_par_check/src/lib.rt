@@ -5,5 +5,5 @@
 pub mod check;
 pub mod judge;
 
-pub use check::check_parallel;
-pub use judge::{Judge, first_bad};
+pub use check::{check_parallel, one_verdict};
+pub use judge::{Judge, first_bad, one_answer};

@@ -1,12 +1,14 @@
 use Rattle.std.proofs.Common.{◌≡◌, length}
 use Rattle.grind_theory.specs.Theories.{AreDeclared}
+use Rattle.grind_cli.specs.Written.{AwaitsGoals}
 use Rattle.grind_cli.proofs.WrittenLemmas.{IsOnTheWay}
 use Rattle.grind_cli.proofs.writing.write_blocks.Given as goal
 
 abbrev pub invariant-loop-goal : goal.invariant-loop-goal
 invariant-loop-goal g l = record {
-  way : IsOnTheWay l.signature l.lemmas l.goals (g.K.Sink.written l.fn.out) l.rest (g.K.Sink.written l.out) l.closed;
-  declared : AreDeclared l.signature l.rest;
+  way : IsOnTheWay l.contents.signature.now l.contents.lemmas.now l.contents.goals.now (g.K.Sink.written l.fn.out) l.rest (g.K.Sink.written l.out) l.closed;
+  awaits : AwaitsGoals l.contents.signature.now l.contents.lemmas.now l.contents.goals.now l.rest (g.K.Sink.written l.out);
+  declared : AreDeclared l.contents.signature.now l.rest;
   faults : g.K.Sink.faults l.out ≡ g.K.Sink.faults l.fn.out;
 }
 

@@ -1,4 +1,4 @@
-use Rattle.grind_cli.proofs.WrittenLemmas.{WritesPart-blocks, WritesPart-end, WritesReport-whole}
+use Rattle.grind_cli.proofs.WrittenLemmas.{WritesPart-blocks, WritesPart-end, WritesReport-whole, AwaitsGoals-all}
 use Rattle.grind_cli.proofs.writing.write_report.Goals as goal
 
 pub returns-in-Err-write_blocks-clause-err : goal.returns-in-Err-write_blocks-clause-err
@@ -24,3 +24,8 @@ returns-clause-ok g c =
           c.requires.few c.in_default.ensures.ok made.1 c.in_default-write_end.ensures.ok,
       made.2,
     )
+
+pub write_blocks-requires-clause-header : goal.write_blocks-requires-clause-header
+write_blocks-requires-clause-header g c =
+    AwaitsGoals-all c.args.signature.now c.args.lemmas.now c.args.goals.now (g.K.Sink.written c.args.out.now)
+    (g.K.Sink.written c.write_header.new.out) c.in_default.ensures.ok

@@ -1,0 +1,15 @@
+//! The program once more, for a run that is refused: of the three words after its name one is empty, so they are no command.
+#![tactic(auto)]
+
+use grind_cli::program::{answer, exit_code, notes_to, report_to, words_of};
+use grind_outside::FileShelf;
+use std::process::ExitCode;
+
+fn main(rt: HostRuntime) -> ExitCode {
+    let words = words_of(&rt);
+    let mut shelf = FileShelf::new(&rt);
+    let mut out = report_to(rt.stdout());
+    let mut notes = notes_to(rt.stderr());
+    let status = answer(&rt, words, &mut shelf, &mut out, &mut notes);
+    exit_code(status)
+}
