@@ -7,7 +7,6 @@ pub mod Rows
 pub mod RowCases
 pub mod Values
 pub mod Readings
-pub mod Marks
 pub mod Pairs
 pub mod Reduction
 pub mod Ranks

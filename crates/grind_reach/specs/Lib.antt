@@ -1,4 +1,6 @@
 pub mod Reached
 pub mod ReachedCases
+pub mod Readings
 pub mod Marks
 pub mod MarksCases
+pub mod Values
