@@ -5,7 +5,7 @@ use Rattle.grind_reach.specs.Readings.{Operations, read_at}
 use Rattle.grind_linear_forms.specs.declared.form.Part.{Part}
 use Rattle.grind_linear_forms.specs.Forms.{FormData, number_form, node_form}
 use Rattle.grind_linear_forms.specs.Sums.{scaled_form, scaled_sum}
-pub use Rattle.grind_reach.specs.Readings.{readings}
+unfoldable pub use Rattle.grind_reach.specs.Readings.{readings}
 
 -- there are no parts
 abbrev pub is_number : List Part → Bool

@@ -6,7 +6,7 @@ use Rattle.grind_polynomials.specs.declared.poly.Term.{Term}
 use Rattle.grind_polynomials.specs.declared.poly.PolyRefusal.{PolyRefusal}
 use Rattle.grind_polynomials.specs.Polynomials.{term_of, degree, is_over}
 use Rattle.grind_polynomials.specs.Sums.{in_front, with_multiples, sum_product}
-pub use Rattle.grind_reach.specs.Readings.{readings}
+unfoldable pub use Rattle.grind_reach.specs.Readings.{readings}
 
 -- the number as a polynomial
 abbrev pub number_poly : ℤ → List Term
