@@ -1,5 +1,5 @@
 //! Terms read as linear forms.
-ghost use Rattle.std.specs.Prelude.{◌≡◌, ◌<◌, All, length, Some, None, IfOk, IsErrOf};
+ghost use Rattle.std.specs.Prelude.{◌≡◌, ◌<◌, ℕ, All, Contains, length, Some, None, IfOk, IsErrOf};
 ghost use Rattle.grind_term_graph.specs.Terms.{int, sort_at};
 ghost use Rattle.grind_reach.specs.Readings.{found};
 ghost use Rattle.grind_linear_forms.specs.Readings.{form_operations, linear, product_form};
@@ -44,6 +44,7 @@ pub fn linear_of_all(
 ) -> Result<List<Option<Form>>, Memory>
     requires { All (λ id. sort_at table.now.nodes id ≡ Some int) ids.now }
     ensures within { IfOk result (λ forms. All (λ id. id < length forms) ids.now) }
+    ensures only { IfOk result (λ forms. (k : ℕ) (form : _) → found forms k ≡ Some form → Contains ids.now k) }
     ensures read { IfOk result (λ forms. All (λ id. found forms id ≡ linear table.now.nodes id) ids.now) }
 {
     read_all::<Form>(alloc, table, ids)

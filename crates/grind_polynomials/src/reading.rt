@@ -1,5 +1,5 @@
 //! Terms read as polynomials.
-ghost use Rattle.std.specs.Prelude.{◌≡◌, ◌<◌, All, length, Some, None, IfOk, IsErrOf};
+ghost use Rattle.std.specs.Prelude.{◌≡◌, ◌<◌, ℕ, All, Contains, length, Some, None, IfOk, IsErrOf};
 ghost use Rattle.grind_term_graph.specs.Terms.{int, sort_at};
 ghost use Rattle.grind_reach.specs.Readings.{found};
 ghost use Rattle.grind_polynomials.specs.Readings.{polynomial, product_poly};
@@ -46,6 +46,7 @@ pub fn poly_of_all(
 ) -> Result<List<Option<Poly>>, Memory>
     requires { All (λ id. sort_at table.now.nodes id ≡ Some int) ids.now }
     ensures within { IfOk result (λ polys. All (λ id. id < length polys) ids.now) }
+    ensures only { IfOk result (λ polys. (k : ℕ) (poly : _) → found polys k ≡ Some poly → Contains ids.now k) }
     ensures read { IfOk result (λ polys. All (λ id. found polys id ≡ polynomial table.now.nodes id) ids.now) }
 {
     read_all::<Poly>(alloc, table, ids)

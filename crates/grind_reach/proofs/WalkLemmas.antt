@@ -1,31 +1,33 @@
 -- One pass over a table that reads what its roots need.
-use Rattle.std.proofs.Common.{◌≡◌, ◌⊎◌, inl, inr, ℕ, zero, suc, ◌+◌, ◌<◌, ◌≤◌, Bool, true, List, [], ◌∷◌, ◌++◌, length, Option, Some, None, slice_get, slice_set, slice_index_or, All, Contains, arith, sym, ap, ◌∙◌, refl, subst}
+use Rattle.std.proofs.Common.{◌≡◌, ◌⊎◌, inl, inr, ℕ, zero, suc, ◌+◌, ◌<◌, ◌≤◌, Bool, true, List, [], ◌∷◌, ◌++◌, length, Option, Some, None, slice_get, slice_set, slice_index_or, All, Contains, ◌↔◌, arith, sym, ap, ◌∙◌, refl, subst}
+use Rattle.std.specs.Option.{option_and_then}
 use Rattle.std.proofs.lemmas.Bool.{cases_order}
 use Rattle.std.proofs.lemmas.List.Elements.{All-contains}
-use Rattle.std.proofs.lemmas.Option.{slice_get_within}
+use Rattle.std.proofs.lemmas.Option.{none-some, same_Some, slice_get_within, slice_get_past}
 use Rattle.grind_lemmas.proofs.Lists.{get-before, get-at, length-push, contains-cases}
 use Rattle.grind_term_graph.specs.declared.node.Node.{Node}
-use Rattle.grind_reach.specs.Reached.{IsNeeded, root}
+use Rattle.grind_reach.specs.Reached.{IsNeeded, root, argument, HaveEarlierArguments}
 use Rattle.grind_reach.specs.Readings.{Operations, reading_of, found, read_at}
-use Rattle.grind_reach.specs.Marks.{IsMarked, HasMarkedArguments, IsReader, IsLastUse, IsCourse, AreRead, reader_at}
+use Rattle.grind_reach.specs.Marks.{IsMarked, HasMarkedArguments, IsReader, IsLastUse, IsCourse, AreRead, AreInUse, reader_at}
 use Rattle.grind_reach.proofs.MarkLemmas.{contained, contains-first, contains-rest}
 use Rattle.grind_reach.proofs.ReadingLemmas.{reading-at, reading-agrees, found-by, found-some}
 
 -- ---- the course of a pass
 pub course-is : (nodes : List Node) (roots : List ℕ) (marks same_marks : List Bool) (uses same_uses : List ℕ)
-    → same_marks ≡ marks → same_uses ≡ uses → length marks ≤ length nodes → length uses ≡ length marks
-    → ((n : ℕ) → HasMarkedArguments nodes marks n) → ((a : ℕ) → IsLastUse nodes marks roots a (reader_at uses a))
-    → All (λ root. root < length marks) roots → ((n : ℕ) → IsNeeded nodes roots n → IsMarked marks n)
+    → same_marks ≡ marks → same_uses ≡ uses → length marks ≤ length nodes → length uses ≡ length marks → HaveEarlierArguments nodes
+    → ((n : ℕ) → IsMarked marks n ↔ IsNeeded nodes roots n) → ((n : ℕ) → HasMarkedArguments nodes marks n)
+    → ((a : ℕ) → IsLastUse nodes marks roots a (reader_at uses a)) → All (λ root. root < length marks) roots
     → All (λ root. reader_at uses root ≡ length marks) roots → IsCourse nodes roots same_marks same_uses
-course-is nodes roots marks same_marks uses same_uses e f within size closed uses_of roots_within needed roots_last =
+course-is nodes roots marks same_marks uses same_uses e f within size earlier exact closed uses_of roots_within roots_last =
     subst (λ (marks : List Bool). IsCourse nodes roots marks same_uses) (sym e)
     (subst (IsCourse nodes roots marks) (sym f) (record {
       within = within;
       size = size;
+      earlier = earlier;
+      exact = exact;
       closed = closed;
       uses_of = uses_of;
       roots_within = roots_within;
-      roots_marked = λ k d h. needed (slice_index_or roots k d) (root (contained roots k d h));
       roots_last = roots_last;
     }))
 
@@ -102,7 +104,8 @@ module _ {R : Type 0} where
   roots-read by nodes roots marks uses list course count known = λ k d h.
       let inside = course.roots_within k d h in
       let last = course.roots_last k d h in
-      known (slice_index_or roots k d) (omega arith) (course.roots_marked k d h) (omega arith)
+      let marked = (course.exact (slice_index_or roots k d)).1 (root (contained roots k d h)) in
+      known (slice_index_or roots k d) (omega arith) marked (omega arith)
 
   set-at : (list : List (Option R)) (x k : ℕ) (reading : Option R) → x < length list
       → ((x ≡ k) × (slice_get (slice_set list x reading) k ≡ Some reading)) ⊎ (slice_get (slice_set list x reading) k ≡ slice_get list k)
@@ -179,3 +182,95 @@ let_go-ends uses n old new args rest none so_far = λ k d h.
       | inl there ↦ there
       | inr later ↦ absurd (omega (arith, later.1))
     ]
+
+-- ---- what is held
+module _ (nodes : List Node) (roots : List ℕ) (marks : List Bool) (uses : List ℕ) (course : IsCourse nodes roots marks uses) where
+  -- a marked node has its last use behind it
+  used-later : (n : ℕ) → IsNeeded nodes roots n → n < reader_at uses n
+  used-later n (root among) =
+      let inside : n < length marks = All-contains (λ root. root < length marks) roots n course.roots_within among in
+      let last : reader_at uses n ≡ length marks = All-contains (λ root. reader_at uses root ≡ length marks) roots n course.roots_last among in
+      omega arith
+  used-later a (argument {n} node needed is reads among) =
+      let before : a < n = All-contains (λ arg. arg < n) node.args a (course.earlier n node is) among in
+      let later = use-after nodes roots marks uses course n a (node, is, (course.exact n).1 needed, reads, among) in omega arith
+
+  -- a node whose last use is at a marked node that is no end is an argument there
+  is-argument : (n k : ℕ) (node : Node) → slice_get nodes n ≡ Some node → n < length marks → k < n → reader_at uses k ≡ n
+      → Contains node.args k
+  is-argument n k node is within below here = elim (course.uses_of k) [
+    | inl its_root ↦ let end : reader_at uses k ≡ length marks = its_root.1 in absurd (omega arith)
+    | inr last ↦ elim last.1 [
+      | inl zero_it_is ↦ absurd (omega arith)
+      | inr reads ↦
+          let same : reads.0 ≡ node = same_Some reads.0 node (sym reads.1 ∙ ap (slice_get nodes) here ∙ is) in
+          subst (λ (node : Node). Contains node.args k) same reads.4
+    ]
+  ]
+
+found-inside : {R : Type 0} (list : List (Option R)) (k : ℕ) (reading : R) → found list k ≡ Some reading → k < length list
+found-inside {R} list k reading e = elim (cases_order k (length list)) [
+  | inl same ↦ absurd (past (omega arith))
+  | inr (inl below) ↦ below
+  | inr (inr above) ↦ absurd (past (omega arith))
+]
+  where
+    past : length list ≤ k → ⊥
+    past h = none-some reading (sym (ap (option_and_then (λ (reading : Option R). reading)) (slice_get_past list k h)) ∙ e)
+
+module _ {R : Type 0} (nodes : List Node) (roots : List ℕ) (marks : List Bool) (uses : List ℕ) (course : IsCourse nodes roots marks uses) where
+  -- one step further, the readings that had their last use there are gone
+  pub held-on : (n : ℕ) (node : Node) → slice_get nodes n ≡ Some node → n < length marks → (old grown new : List (Option R)) (reading : Option R)
+      → length old ≡ n → AreInUse marks uses old → ((it : R) → reading ≡ Some it → IsMarked marks n) → grown ≡ old ++ reading ∷ []
+      → length new ≡ length grown → IsKept uses n grown new
+      → All (λ arg. reader_at uses arg ≡ n → slice_get new arg ≡ Some None) node.args → AreInUse marks uses new
+  held-on n node is within old grown new reading count held here grown_is size kept gone k it e =
+      let longer = length-push old reading in
+      let long : length grown ≡ length (old ++ reading ∷ []) = ap length grown_is in
+      let inside = found-inside new k it e in
+      elim (cases_order k n) [
+        | inl same ↦
+            let marked : IsMarked marks n = here it (sym (found-some grown k reading
+            (ap (λ (list : List (Option R)). slice_get list k) grown_is ∙ ap (slice_get (old ++ reading ∷ [])) (same ∙ sym count) ∙ get-at old reading))
+            ∙ still) in
+            let later = used-later nodes roots marks uses course n ((course.exact n).0 marked) in
+            let until : reader_at uses k ≡ reader_at uses n = ap (reader_at uses) same in
+            (subst (IsMarked marks) (sym same) marked, omega arith)
+        | inr (inl below) ↦
+            let before : found old k ≡ Some it =
+            sym (found-by grown old k (ap (λ (list : List (Option R)). slice_get list k) grown_is ∙ get-before old (reading ∷ []) k (omega arith))) ∙ still in
+            let known = held k it before in
+            let until : n ≤ reader_at uses k = omega (arith, known.1, count) in (
+              known.0,
+              elim (cases_order (reader_at uses k) n) [
+                | inl last ↦
+                    let among = is-argument nodes roots marks uses course n k node is within below last in
+                    let empty = All-contains (λ arg. reader_at uses arg ≡ n → slice_get new arg ≡ Some None) node.args k gone among last in
+                    absurd (none-some it (sym (found-some new k None empty) ∙ e))
+                | inr (inl earlier) ↦ absurd (omega arith)
+                | inr (inr later) ↦ omega arith
+              ],
+            )
+        | inr (inr above) ↦ absurd (omega arith)
+      ]
+    where
+      still : found grown k ≡ Some it
+      still = elim (kept k) [
+        | inl same ↦ sym (found-by new grown k same) ∙ e
+        | inr away ↦ absurd (none-some it (sym (found-some new k None away.1) ∙ e))
+      ]
+
+  -- at the end the roots alone are held
+  pub roots-held : (list : List (Option R)) → length list ≡ length marks → AreInUse marks uses list
+      → (k : ℕ) (reading : R) → found list k ≡ Some reading → Contains roots k
+  roots-held list count held k reading e =
+      let known = held k reading e in
+      let marked : k < length marks = slice_get_within marks k true known.0 in
+      let until : length marks ≤ reader_at uses k = omega (arith, known.1, count) in
+      elim (course.uses_of k) [
+        | inl its_root ↦ its_root.0
+        | inr last ↦ elim last.1 [
+          | inl none ↦ absurd (omega arith)
+          | inr reads ↦ let inside : reader_at uses k < length marks = slice_get_within marks (reader_at uses k) true reads.2 in absurd (omega arith)
+        ]
+      ]

@@ -1,7 +1,7 @@
 -- Which nodes are marked, and which marked node is the last one that is read by another.
-use Rattle.std.specs.Prelude.{◌≡◌, ◌⊎◌, ◌≤◌, ◌<◌, ℕ, List, length, All, Contains, Some, Option, slice_get, slice_index_or, Bool, true}
+use Rattle.std.specs.Prelude.{◌≡◌, ◌⊎◌, ◌≤◌, ◌<◌, ◌↔◌, ℕ, List, length, All, Contains, Some, Option, slice_get, slice_index_or, Bool, true}
 use Rattle.grind_term_graph.specs.declared.node.Node.{Node}
-use Rattle.grind_reach.specs.Reached.{reads_arguments}
+use Rattle.grind_reach.specs.Reached.{reads_arguments, IsNeeded, HaveEarlierArguments}
 use Rattle.grind_reach.specs.Readings.{Operations, found, read_at}
 
 -- the node of that number is marked
@@ -34,13 +34,18 @@ IsLastUse nodes marks roots a last = (Contains roots a × (last ≡ length marks
 pub record IsCourse (nodes : List Node) (roots : List ℕ) (marks : List Bool) (uses : List ℕ) : Type 0 where
   pub within : length marks ≤ length nodes
   pub size : length uses ≡ length marks
+  pub earlier : HaveEarlierArguments nodes
+  pub exact : (n : ℕ) → IsMarked marks n ↔ IsNeeded nodes roots n
   pub closed : (n : ℕ) → HasMarkedArguments nodes marks n
   pub uses_of : (a : ℕ) → IsLastUse nodes marks roots a (reader_at uses a)
   pub roots_within : All (λ root. root < length marks) roots
-  pub roots_marked : All (IsMarked marks) roots
   pub roots_last : All (λ root. reader_at uses root ≡ length marks) roots
 
 -- of the first nodes, one for each of these readings, those that are marked and have a use to come have these readings
 abbrev pub AreRead : {R : Type 0} → Operations R → List Node → List Bool → List ℕ → List (Option R) → Type 0
 AreRead by nodes marks uses list = (k : ℕ) → k < length list → IsMarked marks k → length list ≤ reader_at uses k
     → found list k ≡ read_at by nodes k
+
+-- each reading that is held is that of a marked node that has a use to come
+abbrev pub AreInUse : {R : Type 0} → List Bool → List ℕ → List (Option R) → Type 0
+AreInUse {R} marks uses list = (k : ℕ) (reading : R) → found list k ≡ Some reading → IsMarked marks k × (length list ≤ reader_at uses k)

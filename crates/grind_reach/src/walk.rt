@@ -1,7 +1,7 @@
 //! One pass over a table that reads what its roots need.
-ghost use Rattle.std.specs.Prelude.{◌≡◌, ◌<◌, ◌≤◌, ◌⊎◌, ℕ, suc, All, length, slice_get, Some, None, IfOk, OnOk, MatchOption};
+ghost use Rattle.std.specs.Prelude.{◌≡◌, ◌<◌, ◌≤◌, ◌⊎◌, ℕ, suc, All, Contains, length, slice_get, Some, None, IfOk, OnOk, MatchOption};
 ghost use Rattle.grind_reach.specs.Readings.{found, read_at};
-ghost use Rattle.grind_reach.specs.Marks.{IsMarked, IsCourse, AreRead, reader_at};
+ghost use Rattle.grind_reach.specs.Marks.{IsMarked, IsCourse, AreRead, AreInUse, reader_at};
 
 use crate::algebra::Algebra;
 use crate::marking::{arguments_stand_before, is_marked, needed_nodes};
@@ -30,7 +30,7 @@ pub fn read_term<R: Algebra>(
 }
 
 /// The readings of many terms, in one pass. Each stands at the number of its node. Each node that they need is read once,
-/// and its reading is kept until the last node that needs it is read.
+/// and its reading is let go after the last node that needs it is read: in the end the list has those of the roots alone.
 ///
 /// # Errors
 ///
@@ -43,7 +43,9 @@ pub fn read_all<R: Algebra>(
     requires { All (λ root. root < length table.now.nodes) roots.now }
     ensures within { IfOk result (λ list. All (λ root. root < length list) roots.now) }
     ensures read { IfOk result (λ list. All (λ root. found list root ≡ read_at R.operations table.now.nodes root) roots.now) }
+    ensures only { IfOk result (λ list. (k : ℕ) (reading : R) → found list k ≡ Some reading → Contains roots.now k) }
 {
+    arguments_stand_before(table);
     let marks = needed_nodes(alloc, table, roots)?;
     let uses = last_uses(alloc, table, marks.as_slice(), roots)?;
     let course = Course {
@@ -79,6 +81,7 @@ fn read_along<R: Algebra>(course: &Course) -> Result<List<Option<R>>, Memory>
     requires { IsCourse course.now.table.now.nodes course.now.roots.now course.now.marks.now course.now.uses.now }
     ensures within { IfOk result (λ list. All (λ root. root < length list) course.now.roots.now) }
     ensures read { IfOk result (λ list. All (λ root. found list root ≡ read_at R.operations course.now.table.now.nodes root) course.now.roots.now) }
+    ensures only { IfOk result (λ list. (k : ℕ) (reading : R) → found list k ≡ Some reading → Contains course.now.roots.now k) }
 {
     let _count = course.table.len();
     let mut list = List::new(course.alloc);
@@ -98,8 +101,10 @@ fn read_next<R: Algebra>(
     requires within { n < length course.now.marks.now }
     requires count { length list.old ≡ n }
     requires known { AreRead R.operations course.now.table.now.nodes course.now.marks.now course.now.uses.now list.old }
+    requires held { AreInUse course.now.marks.now course.now.uses.now list.old }
     ensures count { OnOk result (length list.new ≡ suc n) }
     ensures known { OnOk result (AreRead R.operations course.now.table.now.nodes course.now.marks.now course.now.uses.now list.new) }
+    ensures held { OnOk result (AreInUse course.now.marks.now course.now.uses.now list.new) }
 {
     let reading = read_marked(course, n, list.as_slice())?;
     list.push(reading)?;
@@ -117,7 +122,8 @@ fn read_marked<R: Algebra>(
     requires within { n < length course.now.marks.now }
     requires count { length list.now ≡ n }
     requires known { AreRead R.operations course.now.table.now.nodes course.now.marks.now course.now.uses.now list.now }
-    ensures { IfOk result (λ reading. IsMarked course.now.marks.now n → reading ≡ read_at R.operations course.now.table.now.nodes n) }
+    ensures read { IfOk result (λ reading. IsMarked course.now.marks.now n → reading ≡ read_at R.operations course.now.table.now.nodes n) }
+    ensures only { IfOk result (λ reading. (it : R) → reading ≡ Some it → IsMarked course.now.marks.now n) }
 {
     if !is_marked(course.marks, n.number() as usize) {
         return Ok(None);

@@ -13,8 +13,8 @@ read_along-requires g c =
     let same = c.as_slice.ensures.value in
     course-is c.args.table.now.nodes c.args.roots.now c.in_ok-marks.marks c.as_slice-2.result.now c.in_ok-uses.uses c.as_slice-3.result.now
     c.as_slice-2.ensures.value c.as_slice-3.ensures.value (c.in_ok-marks.ensures.size (length c.args.table.now.nodes) c.requires)
-    (c.in_ok-uses.ensures.size ∙ ap length same) c.in_ok-marks.ensures.closed
+    (c.in_ok-uses.ensures.size ∙ ap length same) c.arguments_stand_before.ensures c.in_ok-marks.ensures.exact c.in_ok-marks.ensures.closed
     (λ a. subst (λ (marks : List Bool). IsLastUse c.args.table.now.nodes marks c.args.roots.now a (reader_at c.in_ok-uses.uses a)) same
     (c.in_ok-uses.ensures.uses a))
-    c.in_ok-marks.ensures.roots (λ n. (c.in_ok-marks.ensures.exact n).1)
+    c.in_ok-marks.ensures.roots
     (subst (λ (marks : List Bool). All (λ root. reader_at c.in_ok-uses.uses root ≡ length marks) c.args.roots.now) same c.in_ok-uses.ensures.roots)
