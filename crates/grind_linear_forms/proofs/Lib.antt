@@ -5,6 +5,5 @@ pub mod Rising
 pub mod SumValues
 pub mod CutLemmas
 pub mod ReadingLemmas
-pub mod MarkLemmas
 pub mod Naming
 pub mod ByNode

@@ -11,14 +11,15 @@ use Rattle.grind_term_graph.specs.declared.head.Head.TheVariants as head
 use Rattle.grind_term_graph.specs.declared.node.Node.{Node}
 use Rattle.grind_term_graph.specs.Shape.{IsTable, IsShaped}
 use Rattle.grind_term_graph.specs.Terms.{int, sort_at}
+use Rattle.grind_reach.specs.Readings.{of_one, of_two, reading_of, found, readings}
+use Rattle.grind_reach.proofs.ReadingLemmas.{readings-nil, readings-cons, found-by}
 use Rattle.grind_linear_forms.specs.declared.form.Part.{Part}
 use Rattle.grind_linear_forms.specs.Forms.{FormData, part_of, node_form}
 use Rattle.grind_linear_forms.specs.Sums.{multiple, combination, in_front, front, multiplied, merged, scaled_form, scaled_sum}
 use Rattle.grind_linear_forms.specs.Cuts.{times, IsCut}
-use Rattle.grind_linear_forms.specs.Readings.{is_number, product_form, of_one, of_two, reading_of, found, readings, linear}
+use Rattle.grind_linear_forms.specs.Readings.{is_number, product_form, form_operations, linear}
 use Rattle.grind_linear_forms.specs.Naming.{NamesNumbers}
 use Rattle.grind_linear_forms.proofs.Merging.{multiplied-nil, multiplied-cons, merged-nil, merged-left, merged-less, merged-more, merged-same, both-some}
-use Rattle.grind_linear_forms.proofs.ReadingLemmas.{readings-nil, readings-cons, found-by}
 
 module _ (P : ℕ → Type 0) where
   -- what holds of each node
@@ -142,7 +143,7 @@ module _ (P : ℕ → Type 0) where
     by_two f each (a ∷ b ∷ c ∷ rest) sorts form e = absurd (none-some form e)
 
     named-reading : (its_head : Head) (sort : ℕ) (args : List ℕ) → IsShaped its_head sort (map (sort_at before) args)
-        → (form : FormData) → reading_of look n its_head args ≡ Some form → OfNodes form.parts
+        → (form : FormData) → reading_of form_operations look n its_head args ≡ Some form → OfNodes form.parts
     named-reading head.True sort args shaped form e = itself form e
     named-reading head.False sort args shaped form e = itself form e
     named-reading head.Not sort args shaped form e = itself form e
@@ -190,17 +191,17 @@ module _ (whole : List Node) where
   ]
 
   named-readings : (nodes before : List Node) (done : List (Option FormData)) → whole ≡ before ++ nodes → length done ≡ length before
-      → IsTable before nodes → Known done → Known (readings done nodes)
+      → IsTable before nodes → Known done → Known (readings form_operations done nodes)
   named-readings [] before done parts count table known =
-      subst Known (sym (readings-nil done)) known
+      subst Known (sym (readings-nil form_operations done)) known
   named-readings (node ∷ rest) before done parts count table known =
-      let reading = reading_of (found done) (length done) node.head node.args in
+      let reading = reading_of form_operations (found done) (length done) node.head node.args in
       let longer = length-push done reading in
       let longer_too = length-push before node in
       let next_parts : whole ≡ (before ++ node ∷ []) ++ rest = parts ∙ sym (append_assoc before (node ∷ []) rest) in
       let old : (a : ℕ) (form : FormData) → sort_at before a ≡ Some int → found done a ≡ Some form → NamesNumbers whole form = λ a form sort f.
       known a form (ap (λ (nodes : List Node). sort_at nodes a) parts ∙ sort-before before (node ∷ rest) a sort) f in
-      subst Known (sym (readings-cons done node rest))
+      subst Known (sym (readings-cons form_operations done node rest))
       (named-readings rest (before ++ node ∷ []) (done ++ reading ∷ []) next_parts (omega arith) table.2
       (known-push done reading known
       (λ form number e. named-reading (λ a. sort_at whole a ≡ Some int) (found done) before (length done) number old node.head node.sort node.args

@@ -9,7 +9,7 @@ use Rattle.grind_monomials.proofs.Orders.{above-is}
 use Rattle.grind_polynomials.specs.declared.poly.Term.{Term}
 use Rattle.grind_polynomials.specs.declared.poly.PolyRefusal.{PolyRefusal}
 use Rattle.grind_polynomials.specs.declared.poly.PolyRefusal.TheVariants.{Overflow, Degree}
-use Rattle.grind_polynomials.specs.Polynomials.{StartsBelow, IsPoly, degree, is_over, fit}
+use Rattle.grind_polynomials.specs.Polynomials.{StartsBelow, IsPoly, degree, is_over, fit_or_refuse}
 use Rattle.grind_polynomials.specs.Sums.{and_then, signed, in_front, front, with_more, with_multiple, with_product, with_products, with_all_products}
 use Rattle.grind_polynomials.proofs.Fits.{ok-err, same_Err, fit_refuses}
 use Rattle.grind_polynomials.proofs.Putting.{more-nil, more-above, more-same, more-below}
@@ -50,7 +50,7 @@ refused f (Ok a) e h = inr (a, refl, h)
 refused f (Err x) e h = inl (ap (λ (x : PolyRefusal). Err x) (same_Err (and_then f (Err x)) x e refl h))
 
 front-refused : (z : ℤ) (m : List ℕ) (rest : List Term) (e : PolyRefusal) → front z m rest ≡ Err e → e ≡ Overflow
-front-refused z m rest e h = elim (refused (λ number. Ok (in_front number m rest)) (fit z) e h) [
+front-refused z m rest e h = elim (refused (λ number. Ok (in_front number m rest)) (fit_or_refuse z) e h) [
   | inl over ↦ fit_refuses z e over
   | inr made ↦ absurd (ok-err (Ok (in_front made.0 m rest)) (in_front made.0 m rest) e refl made.2)
 ]
@@ -70,7 +70,7 @@ more-refused z m (x ∷ xs) e h = at_place (place x.monomial m) refl (more-refus
 pub multiple-refuses : (minus : Bool) (c : ℤ) (m : List ℕ) (b : Term) (terms : List Term) (e : PolyRefusal)
     → with_multiple minus c m b terms ≡ Err e → e ≡ Overflow
 multiple-refuses minus c m b terms e h =
-    elim (refused (λ number. with_more (signed minus number) (product m b.monomial) terms) (fit (c *ℤ b.coefficient)) e
+    elim (refused (λ number. with_more (signed minus number) (product m b.monomial) terms) (fit_or_refuse (c *ℤ b.coefficient)) e
     (sym (multiple-is minus c m b terms) ∙ h)) [
       | inl over ↦ fit_refuses (c *ℤ b.coefficient) e over
       | inr made ↦ more-refused (signed minus made.0) (product m b.monomial) terms e made.2

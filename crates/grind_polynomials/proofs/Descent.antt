@@ -13,7 +13,7 @@ use Rattle.grind_monomials.proofs.Clauses.{place-one}
 use Rattle.grind_monomials.proofs.Orders.{nodes-itself}
 use Rattle.grind_monomials.proofs.CountLemmas.{rises-quotient, product-quotient, place-product}
 use Rattle.grind_polynomials.specs.declared.poly.Term.{Term}
-use Rattle.grind_polynomials.specs.Polynomials.{StartsBelow, IsPoly, fit}
+use Rattle.grind_polynomials.specs.Polynomials.{StartsBelow, IsPoly, fit_or_refuse}
 use Rattle.grind_polynomials.specs.Sums.{signed, in_front, front, with_more, with_multiple, with_multiples}
 use Rattle.grind_polynomials.specs.Pairs.{lead_coefficient, lead_monomial}
 use Rattle.grind_polynomials.specs.declared.reduction.Reduced.{Reduced}
@@ -355,7 +355,7 @@ pub factor-nonzero : (found : Target) (now next : Reduced) → IsPoly found.elem
     → now.factor ≢ pos 0 → next.factor ≢ pos 0
 unfolding factor_after
 factor-nonzero found now next element some by before none =
-    let w = made_of (λ u. fit (u *ℤ now.factor)) (fit (unit found by.divisor)) next.factor by.factor_is in
+    let w = made_of (λ u. fit_or_refuse (u *ℤ now.factor)) (fit_or_refuse (unit found by.divisor)) next.factor by.factor_is in
     let unit_is = fit_is (unit found by.divisor) w.0 w.1 in
     let product_is = fit_is (w.0 *ℤ now.factor) next.factor w.2 in
     before (int_mul-zero_out w.0 now.factor (sym product_is ∙ none)

@@ -9,7 +9,7 @@ use Rattle.grind_monomials.proofs.CountLemmas.{rises-product}
 use Rattle.grind_polynomials.specs.declared.poly.Term.{Term}
 use Rattle.grind_polynomials.specs.declared.poly.PolyRefusal.{PolyRefusal}
 use Rattle.grind_polynomials.specs.declared.poly.PolyRefusal.TheVariants.{Degree}
-use Rattle.grind_polynomials.specs.Polynomials.{StartsBelow, IsPoly, is_over, fit}
+use Rattle.grind_polynomials.specs.Polynomials.{StartsBelow, IsPoly, is_over, fit_or_refuse}
 use Rattle.grind_polynomials.specs.Sums.{and_then, signed, in_front, front, behind, with_more, with_multiple, with_multiples, with_product, with_products, with_all_products}
 use Rattle.grind_polynomials.proofs.Fits.{ok-err, same_Ok}
 use Rattle.grind_polynomials.proofs.Putting.{more-nil, more-above, more-same, more-below}
@@ -23,9 +23,9 @@ made_of f (Ok a) b e = (a, refl, e)
 made_of f (Err x) b e = absurd (ok-err (Err x) b x e refl)
 
 pub front-made : (z : ℤ) (m : List ℕ) (rest all : List Term) → front z m rest ≡ Ok all
-    → (c : ℤ) × (fit z ≡ Ok c) × (in_front c m rest ≡ all)
+    → (c : ℤ) × (fit_or_refuse z ≡ Ok c) × (in_front c m rest ≡ all)
 front-made z m rest all e =
-    let w = made_of (λ number. Ok (in_front number m rest)) (fit z) all e in
+    let w = made_of (λ number. Ok (in_front number m rest)) (fit_or_refuse z) all e in
     (w.0, w.1, same_Ok (Ok (in_front w.0 m rest)) (in_front w.0 m rest) all refl w.2)
 
 pub behind-made : (done : List Term) (rest : Result (List Term) PolyRefusal) (all : List Term) → behind done rest ≡ Ok all
@@ -35,9 +35,9 @@ behind-made done rest all e =
     (w.0, w.1, same_Ok (Ok (done ++ w.0)) (done ++ w.0) all refl w.2)
 
 pub multiple-made : (minus : Bool) (c : ℤ) (m : List ℕ) (b : Term) (terms all : List Term) → with_multiple minus c m b terms ≡ Ok all
-    → (number : ℤ) × (fit (c *ℤ b.coefficient) ≡ Ok number) × (with_more (signed minus number) (product m b.monomial) terms ≡ Ok all)
+    → (number : ℤ) × (fit_or_refuse (c *ℤ b.coefficient) ≡ Ok number) × (with_more (signed minus number) (product m b.monomial) terms ≡ Ok all)
 multiple-made minus c m b terms all e =
-    made_of (λ number. with_more (signed minus number) (product m b.monomial) terms) (fit (c *ℤ b.coefficient)) all
+    made_of (λ number. with_more (signed minus number) (product m b.monomial) terms) (fit_or_refuse (c *ℤ b.coefficient)) all
     (sym (multiple-is minus c m b terms) ∙ e)
 
 pub product-made : (q b : Term) (terms all : List Term) → with_product q b terms ≡ Ok all

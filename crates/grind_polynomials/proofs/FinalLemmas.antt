@@ -17,12 +17,12 @@ use Rattle.grind_polynomials.specs.declared.poly.PolyRefusal.{PolyRefusal}
 use Rattle.grind_polynomials.specs.declared.poly.PolyRefusal.TheVariants.{Overflow}
 use Rattle.grind_polynomials.specs.declared.reduction.Reduced.{Reduced}
 use Rattle.grind_polynomials.specs.declared.factors.Factors.{Factors}
-use Rattle.grind_polynomials.specs.Polynomials.{IsPoly, fit}
+use Rattle.grind_polynomials.specs.Polynomials.{IsPoly, fit_or_refuse}
 use Rattle.grind_polynomials.specs.Sums.{signed}
 use Rattle.grind_polynomials.specs.Pairs.{divided_by, lead_coefficient, lead_monomial}
 use Rattle.grind_polynomials.specs.Reduction.{reduced_of, is_one, is_negative, reducer, Target, target_of, target, unit, weight, Steps, Reduces, irreducible, step, overflow, IsContent}
 use Rattle.grind_polynomials.specs.Gathering.{Move, move_of, factors_moved, no_factors, Gathers, ended, moved, spilt, has_terms, factors_by, IsFactors, Spills}
-use Rattle.grind_polynomials.specs.FinalFactors.{MovesBy, Moves, none_left, one_more, units, taken, shared_out, IsFinal, AllFit, FactorsFit, Exceeds, FactorsOverflow, ArePolys}
+use Rattle.grind_polynomials.specs.FinalFactors.{MovesBy, Moves, none_left, one_more, units, reduced_terms, shared_out, IsFinal, AllFit, FactorsFit, Exceeds, FactorsOverflow, ArePolys}
 use Rattle.grind_polynomials.proofs.Fits.{ok-err, same_Ok}
 use Rattle.grind_polynomials.proofs.Divisors.{weight-times_lead}
 use Rattle.grind_polynomials.proofs.ReductionLemmas.{reducer-none, reducer-cons, target-none, target-here, target-later, unit-nonzero, poly-rest}
@@ -131,7 +131,7 @@ final-one basis p one other first second =
     let moves : second.moves ≡ first.moves = moves-one basis (has_terms first.made.rest) (reduced_of (pos 1) p) second.moves first.moves
     (subst (λ (r : Reduced). Moves basis (has_terms r.rest) (reduced_of (pos 1) p) second.moves) made second.moves_are) first.moves_are in
     first.factors_are
-    ∙ sym (λ i. factors_by (made i) (content i) (shared_out basis (taken (moves i))) (has_terms (made i).rest))
+    ∙ sym (λ i. factors_by (made i) (content i) (shared_out basis (reduced_terms (moves i))) (has_terms (made i).rest))
     ∙ sym second.factors_are
 
 -- where there are factors that fit, nothing overflows
@@ -202,11 +202,11 @@ module _ (basis : List (List Term)) (polys : ArePolys basis) (some : All (λ b. 
     move-over = subst (λ (m : Move). AreOver m.monomial basis qs) (sym move_is) (ready.over steps.found steps.found_is)
 
     step-moved : (more : List (List Term)) (later : List Move) → factors_moved (move_of minus steps.found steps.step_is.divisor) true basis qs ≡ Ok more
-        → (joined basis (times_all (units later) more) (taken later) ≡ joined basis (times_all (units (move ∷ later)) qs) (taken (move ∷ later)))
+        → (joined basis (times_all (units later) more) (reduced_terms later) ≡ joined basis (times_all (units (move ∷ later)) qs) (reduced_terms (move ∷ later)))
         × IsReady next more
     step-moved more later e =
         let facts = is-step now next steps ready.poly in
-        let made = all-moved move move-mono move-weighs (units later) true basis qs more (taken later) polys move-over
+        let made = all-moved move move-mono move-weighs (units later) true basis qs more (reduced_terms later) polys move-over
         (ap (λ (m : Move). factors_moved m true basis qs) move_is ∙ e) in (
           made.is,
           record {
@@ -220,14 +220,14 @@ module _ (basis : List (List Term)) (polys : ArePolys basis) (some : All (λ b. 
 
     step-refused : (later : List Move) (e : PolyRefusal) → IsPositive (units later)
         → factors_moved (move_of minus steps.found steps.step_is.divisor) true basis qs ≡ Err e
-        → AllFit (joined basis (times_all (units (move ∷ later)) qs) (taken (move ∷ later))) → ⊥
+        → AllFit (joined basis (times_all (units (move ∷ later)) qs) (reduced_terms (move ∷ later))) → ⊥
     step-refused later e positive h fits =
-        all-refused move move-mono move-weighs (units later) true basis qs (taken later) e positive polys move-over
+        all-refused move move-mono move-weighs (units later) true basis qs (reduced_terms later) e positive polys move-over
         (ap (λ (m : Move). factors_moved m true basis qs) move_is ∙ h) fits
 
   gathers-final : (minus : Bool) (now : Reduced) (qs : List (List Term)) (answer : Result (List (List Term)) PolyRefusal) (moves : List Move)
       → Gathers basis minus now qs answer → Moves basis minus now moves → IsReady now qs
-      → Answers answer (joined basis (times_all (units moves) qs) (taken moves))
+      → Answers answer (joined basis (times_all (units moves) qs) (reduced_terms moves))
   gathers-final minus now qs answer moves (ended none) (none_left also) ready =
       let same = joined-none basis qs ready.size in (sym same, subst AllFit (sym same) ready.fits)
   gathers-final minus now qs answer moves (ended none) (one_more by later) ready =
@@ -264,9 +264,9 @@ module _ (basis : List (List Term)) (polys : ArePolys basis) (some : All (λ b. 
 
   from-start : (minus : Bool) (p : List Term) (answer : Result (List (List Term)) PolyRefusal) (moves : List Move) → IsPoly p
       → Gathers basis minus (reduced_of (pos 1) p) (no_factors basis) answer → Moves basis minus (reduced_of (pos 1) p) moves
-      → Answers answer (shared_out basis (taken moves))
+      → Answers answer (shared_out basis (reduced_terms moves))
   from-start minus p answer moves poly gathers moves_are =
-      subst (Answers answer) (joined-start basis (units moves) (taken moves))
+      subst (Answers answer) (joined-start basis (units moves) (reduced_terms moves))
       (gathers-final minus (reduced_of (pos 1) p) (no_factors basis) answer moves gathers moves_are (ready-start p poly))
 
   list-is : (made : Reduced) (content : ℕ) (gathered : List (List Term)) (some_left : Bool)
@@ -289,8 +289,8 @@ module _ (basis : List (List Term)) (polys : ArePolys basis) (some : All (λ b. 
       }
 
   -- and they fit
-  pub final-fits : (p : List Term) (factors : Factors) → IsPoly p → IsFactors basis p factors → fit factors.divisor ≡ Ok factors.divisor
-      → fit factors.own ≡ Ok factors.own → FactorsFit factors
+  pub final-fits : (p : List Term) (factors : Factors) → IsPoly p → IsFactors basis p factors → fit_or_refuse factors.divisor ≡ Ok factors.divisor
+      → fit_or_refuse factors.own ≡ Ok factors.own → FactorsFit factors
   final-fits p factors poly one divisor own =
       let moves = moves-made basis (has_terms one.made.rest) (reduced_of (pos 1) p) (Ok one.made) one.made one.made_is refl in
       let answers = from-start (has_terms one.made.rest) p (Ok one.gathered) moves.0 poly one.gathered_is moves.1 in
@@ -305,7 +305,7 @@ module _ (basis : List (List Term)) (polys : ArePolys basis) (some : All (λ b. 
   pub spills-exceeds : (p : List Term) → IsPoly p → Spills basis p → Exceeds basis p
   spills-exceeds p poly spills =
       let moves = moves-made basis (has_terms spills.made.rest) (reduced_of (pos 1) p) (Ok spills.made) spills.made spills.made_is refl in
-      let list = shared_out basis (taken moves.0) in
+      let list = shared_out basis (reduced_terms moves.0) in
       let left = has_terms spills.made.rest in record {
         factors = factors_by spills.made spills.content list left;
         final_is = record {
@@ -322,6 +322,6 @@ module _ (basis : List (List Term)) (polys : ArePolys basis) (some : All (λ b. 
               (subst AllFit (list-is spills.made spills.content list left) fits.list)
           | inr divisor ↦
               let fits_by : FactorsFit (factors_by spills.made spills.content list true) = subst (λ (some_left : Bool). FactorsFit (factors_by spills.made spills.content list some_left)) divisor.0 fits in
-              ok-err (fit (pos spills.content)) (pos spills.content) Overflow fits_by.divisor divisor.1
+              ok-err (fit_or_refuse (pos spills.content)) (pos spills.content) Overflow fits_by.divisor divisor.1
         ];
       }

@@ -9,7 +9,7 @@ use Rattle.grind_monomials.specs.Monomials.{IsMonomial, quotient}
 use Rattle.grind_monomials.proofs.CountLemmas.{rises-quotient, product-quotient}
 use Rattle.grind_polynomials.specs.declared.poly.Term.{Term}
 use Rattle.grind_polynomials.specs.declared.poly.PolyRefusal.{PolyRefusal}
-use Rattle.grind_polynomials.specs.Polynomials.{term_of, IsPoly, fit}
+use Rattle.grind_polynomials.specs.Polynomials.{term_of, IsPoly, fit_or_refuse}
 use Rattle.grind_polynomials.specs.Sums.{and_then, signed, with_more}
 use Rattle.grind_polynomials.specs.Pairs.{lead_monomial}
 use Rattle.grind_polynomials.specs.Reduction.{is_one, scaled}
@@ -159,7 +159,7 @@ module _ (move : Move) (mono : IsMonomial move.monomial) (some : signed move.min
             let p_over = subst (IsOver lead move.monomial) (sym (scaled-is move.unit q p.0 p.1)) (over-times lead move.monomial move.unit q over) in
             let over_last = more-refused_at w further p.0 e (over-above lead move.monomial p.0 (lead-mono b poly) mono (divides refl) p_over) p.2 in
             let last = fits-right (times (move.unit *ℤ u) q) (term_of (u *ℤ w) further ∷ rest) fits in
-            ok-err (fit w) w e (fits-less w u positive (subst (λ (z : ℤ). fit z ≡ Ok z) (int_mul-comm u w) last.0)) over_last
+            ok-err (fit_or_refuse w) w e (fits-less w u positive (subst (λ (z : ℤ). fit_or_refuse z ≡ Ok z) (int_mul-comm u w) last.0)) over_last
       ]
 
   extra-over : (hit : Bool) (b : List Term) (n : List ℕ) → IsPoly b → (hit ≡ true → quotient (lead_monomial b) move.monomial ≡ [])

@@ -12,7 +12,7 @@ use Rattle.grind_monomials.proofs.CountLemmas.{rises-quotient, product-quotient,
 use Rattle.grind_polynomials.specs.declared.poly.Term.{Term}
 use Rattle.grind_polynomials.specs.declared.poly.PolyRefusal.{PolyRefusal}
 use Rattle.grind_polynomials.specs.declared.poly.PolyRefusal.TheVariants.{Overflow}
-use Rattle.grind_polynomials.specs.Polynomials.{term_of, fit}
+use Rattle.grind_polynomials.specs.Polynomials.{term_of, fit_or_refuse}
 use Rattle.grind_polynomials.specs.Sums.{in_front, front, behind, with_more}
 use Rattle.grind_polynomials.specs.Reduction.{scaled}
 use Rattle.grind_polynomials.specs.FinalFactors.{EachFits}
@@ -46,41 +46,41 @@ positive-product a b one two = (
     more : (n m : ℕ) → suc n * suc m ≡ suc (m + n * suc m)
     more n m = grind arith
 
-fits-below : (m : ℕ) → fit (pos m) ≡ Ok (pos m) → m < 2 ^ 127
-unfolding fit
+fits-below : (m : ℕ) → fit_or_refuse (pos m) ≡ Ok (pos m) → m < 2 ^ 127
+unfolding fit_or_refuse
 fits-below m e = at_test (ltb m (2 ^ 127)) refl
   where
     at_test : (b : Bool) → ltb m (2 ^ 127) ≡ b → m < 2 ^ 127
     at_test true is = ltb-true m (2 ^ 127) is
-    at_test false is = absurd (ok-err (fit (pos m)) (pos m) Overflow e (cond-false (ltb m (2 ^ 127)) _ _ is))
+    at_test false is = absurd (ok-err (fit_or_refuse (pos m)) (pos m) Overflow e (cond-false (ltb m (2 ^ 127)) _ _ is))
 
-fits-above : (m : ℕ) → fit (negsuc m) ≡ Ok (negsuc m) → m < 2 ^ 127
-unfolding fit
+fits-above : (m : ℕ) → fit_or_refuse (negsuc m) ≡ Ok (negsuc m) → m < 2 ^ 127
+unfolding fit_or_refuse
 fits-above m e = at_test (ltb m (2 ^ 127)) refl
   where
     at_test : (b : Bool) → ltb m (2 ^ 127) ≡ b → m < 2 ^ 127
     at_test true is = ltb-true m (2 ^ 127) is
-    at_test false is = absurd (ok-err (fit (negsuc m)) (negsuc m) Overflow e (cond-false (ltb m (2 ^ 127)) _ _ is))
+    at_test false is = absurd (ok-err (fit_or_refuse (negsuc m)) (negsuc m) Overflow e (cond-false (ltb m (2 ^ 127)) _ _ is))
 
 below-less : (a b m : ℕ) → a + b < m → a < m
 below-less a b m h = omega arith
 
 -- where a positive multiple of a number fits, the number does
-pub fits-less : (z u : ℤ) → IsPositive u → fit (z *ℤ u) ≡ Ok (z *ℤ u) → fit z ≡ Ok z
+pub fits-less : (z u : ℤ) → IsPositive u → fit_or_refuse (z *ℤ u) ≡ Ok (z *ℤ u) → fit_or_refuse z ≡ Ok z
 fits-less (pos a) u positive e =
     let whole : pos a *ℤ u ≡ pos (a + a * positive.0) =
     ap (λ (k : ℤ). pos a *ℤ k) positive.1 ∙ natural_product a (suc positive.0) ∙ ap pos (more a positive.0) in
-    fit_in (pos a) (record { sfits = below-less a (a * positive.0) (2 ^ 127) (fits-below (a + a * positive.0) (subst (λ (k : ℤ). fit k ≡ Ok k) whole e)) })
+    fit_in (pos a) (record { sfits = below-less a (a * positive.0) (2 ^ 127) (fits-below (a + a * positive.0) (subst (λ (k : ℤ). fit_or_refuse k ≡ Ok k) whole e)) })
   where
     more : (n m : ℕ) → n * suc m ≡ n + n * m
     more n m = grind arith
 fits-less (negsuc a) u positive e =
     let whole : negsuc a *ℤ u ≡ negsuc (a + suc a * positive.0) =
     ap (λ (k : ℤ). negsuc a *ℤ k) positive.1 ∙ negative_product a positive.0 in
-    fit_in (negsuc a) (record { sfits = below-less a (suc a * positive.0) (2 ^ 127) (fits-above (a + suc a * positive.0) (subst (λ (k : ℤ). fit k ≡ Ok k) whole e)) })
+    fit_in (negsuc a) (record { sfits = below-less a (suc a * positive.0) (2 ^ 127) (fits-above (a + suc a * positive.0) (subst (λ (k : ℤ). fit_or_refuse k ≡ Ok k) whole e)) })
 
-fits-again : (z y : ℤ) → fit z ≡ Ok y → fit y ≡ Ok y
-fits-again z y e = subst (λ (x : ℤ). fit x ≡ Ok y) (sym (fit_is z y e)) e
+fits-again : (z y : ℤ) → fit_or_refuse z ≡ Ok y → fit_or_refuse y ≡ Ok y
+fits-again z y e = subst (λ (x : ℤ). fit_or_refuse x ≡ Ok y) (sym (fit_is z y e)) e
 
 swapped : (u k c : ℤ) → (u *ℤ k) *ℤ c ≡ (u *ℤ c) *ℤ k
 swapped u k c = int_mul-assoc u k c ∙ ap (λ (z : ℤ). u *ℤ z) (int_mul-comm k c) ∙ sym (int_mul-assoc u c k)
@@ -114,7 +114,7 @@ scaled-is u (t ∷ ts) all e =
 pub scaled-fits : (u : ℤ) (ts all : List Term) → scaled u ts ≡ Ok all → EachFits all
 scaled-fits u [] all e = subst EachFits (same_Ok (scaled u []) [] all (scaled-nil u) e) tt
 scaled-fits u (t ∷ ts) all e =
-    let w = made_of (λ c. behind (term_of c t.monomial ∷ []) (scaled u ts)) (fit (u *ℤ t.coefficient)) all (sym (scaled-cons u t ts) ∙ e) in
+    let w = made_of (λ c. behind (term_of c t.monomial ∷ []) (scaled u ts)) (fit_or_refuse (u *ℤ t.coefficient)) all (sym (scaled-cons u t ts) ∙ e) in
     let b = behind-made (term_of w.0 t.monomial ∷ []) (scaled u ts) all w.2 in
     subst EachFits b.2 (fits-again (u *ℤ t.coefficient) w.0 w.1, scaled-fits u ts b.0 b.1)
 
@@ -125,9 +125,9 @@ behind-refused done (Err x) e h = h
 pub scaled-refused : (k u : ℤ) (ts : List Term) (e : PolyRefusal) → IsPositive u → scaled k ts ≡ Err e → EachFits (times (k *ℤ u) ts) → ⊥
 scaled-refused k u [] e positive h fits = ok-err (scaled k []) [] e (scaled-nil k) h
 scaled-refused k u (t ∷ ts) e positive h fits =
-    elim (refused (λ c. behind (term_of c t.monomial ∷ []) (scaled k ts)) (fit (k *ℤ t.coefficient)) e (sym (scaled-cons k t ts) ∙ h)) [
-      | inl over ↦ ok-err (fit (k *ℤ t.coefficient)) (k *ℤ t.coefficient) e
-          (fits-less (k *ℤ t.coefficient) u positive (subst (λ (z : ℤ). fit z ≡ Ok z) (swapped k u t.coefficient) fits.0)) over
+    elim (refused (λ c. behind (term_of c t.monomial ∷ []) (scaled k ts)) (fit_or_refuse (k *ℤ t.coefficient)) e (sym (scaled-cons k t ts) ∙ h)) [
+      | inl over ↦ ok-err (fit_or_refuse (k *ℤ t.coefficient)) (k *ℤ t.coefficient) e
+          (fits-less (k *ℤ t.coefficient) u positive (subst (λ (z : ℤ). fit_or_refuse z ≡ Ok z) (swapped k u t.coefficient) fits.0)) over
       | inr later ↦ scaled-refused k u ts e positive (behind-refused (term_of later.0 t.monomial ∷ []) (scaled k ts) e later.2) fits.1
     ]
 
@@ -151,7 +151,7 @@ in_front-some (pos (suc k)) n rest some = refl
 in_front-some (negsuc k) n rest some = refl
 
 pub more-is : (z : ℤ) (n : List ℕ) (ts all : List Term) → z ≢ pos 0 → AllAbove n ts → with_more z n ts ≡ Ok all
-    → (all ≡ ts ++ term_of z n ∷ []) × (fit z ≡ Ok z)
+    → (all ≡ ts ++ term_of z n ∷ []) × (fit_or_refuse z ≡ Ok z)
 more-is z n ts all some above e =
     let b = behind-made ts (front z n []) all (sym (more-behind z n ts above) ∙ e) in
     let f = front-made z n [] b.0 b.1 in
@@ -160,9 +160,9 @@ more-is z n ts all some above e =
       f.1 ∙ ap (λ (c : ℤ). Ok c) same,
     )
 
-pub more-refused_at : (z : ℤ) (n : List ℕ) (ts : List Term) (e : PolyRefusal) → AllAbove n ts → with_more z n ts ≡ Err e → fit z ≡ Err e
+pub more-refused_at : (z : ℤ) (n : List ℕ) (ts : List Term) (e : PolyRefusal) → AllAbove n ts → with_more z n ts ≡ Err e → fit_or_refuse z ≡ Err e
 more-refused_at z n ts e above h =
-    elim (refused (λ number. Ok (in_front number n [])) (fit z) e (behind-refused ts (front z n []) e (sym (more-behind z n ts above) ∙ h))) [
+    elim (refused (λ number. Ok (in_front number n [])) (fit_or_refuse z) e (behind-refused ts (front z n []) e (sym (more-behind z n ts above) ∙ h))) [
       | inl over ↦ over
       | inr w ↦ absurd (ok-err (Ok (in_front w.0 n [])) (in_front w.0 n []) e refl w.2)
     ]

@@ -4,7 +4,7 @@ use Rattle.std.proofs.lemmas.List.{append_assoc, append-nil}
 use Rattle.std.proofs.lemmas.Nat.Gcd.{same_from_IsGcd}
 use Rattle.grind_polynomials.specs.declared.poly.Term.{Term}
 use Rattle.grind_polynomials.specs.declared.poly.PolyRefusal.{PolyRefusal}
-use Rattle.grind_polynomials.specs.Polynomials.{fit}
+use Rattle.grind_polynomials.specs.Polynomials.{fit_or_refuse}
 use Rattle.grind_polynomials.specs.Pairs.{lead_coefficient}
 use Rattle.grind_polynomials.specs.Reduction.{Target, IsTargetGcd, unit, weight}
 use Rattle.grind_polynomials.specs.Gathering.{has_terms, Move, move_by, move_of, factor_moved, before, behind_all, hits, factors_moved}
@@ -67,7 +67,7 @@ gather_no_more move whole free done elements (q ∷ qs) e so_far = absurd (omega
 
 -- ---- the move
 pub move-same : (minus : Bool) (found : Target) (g h : ℕ) (u w : ℤ) (m : List ℕ) → IsTargetGcd found g → IsTargetGcd found h
-    → fit (unit found g) ≡ Ok u → fit (weight found g) ≡ Ok w → m ≡ found.term.monomial → move_by minus u w m ≡ move_of minus found h
+    → fit_or_refuse (unit found g) ≡ Ok u → fit_or_refuse (weight found g) ≡ Ok w → m ≡ found.term.monomial → move_by minus u w m ≡ move_of minus found h
 move-same minus found g h u w m one two u_is w_is is =
     let same = same_from_IsGcd (unsigned_abs (lead_coefficient found.element)) (unsigned_abs found.term.coefficient) g h one two in
     λ i. move_by minus ((fit_is (unit found g) u u_is ∙ ap (unit found) same) i) ((fit_is (weight found g) w w_is ∙ ap (weight found) same) i) (is i)

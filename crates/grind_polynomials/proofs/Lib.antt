@@ -7,7 +7,6 @@ pub mod RunningLemmas
 pub mod SumValues
 pub mod Degrees
 pub mod ReadingLemmas
-pub mod MarkLemmas
 pub mod Divisors
 pub mod PairLemmas
 pub mod ReductionLemmas

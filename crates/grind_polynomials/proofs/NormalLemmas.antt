@@ -15,7 +15,7 @@ use Rattle.grind_polynomials.specs.declared.poly.Term.{Term}
 use Rattle.grind_polynomials.specs.declared.poly.PolyRefusal.{PolyRefusal}
 use Rattle.grind_polynomials.specs.declared.poly.PolyRefusal.TheVariants.{Overflow}
 use Rattle.grind_polynomials.specs.declared.reduction.Reduced.{Reduced}
-use Rattle.grind_polynomials.specs.Polynomials.{fit}
+use Rattle.grind_polynomials.specs.Polynomials.{fit_or_refuse}
 use Rattle.grind_polynomials.specs.Sums.{signed}
 use Rattle.grind_polynomials.specs.Values.{poly_value, Vanishes}
 use Rattle.grind_polynomials.specs.Pairs.{divided_by, lead_coefficient, lead_monomial}
@@ -29,7 +29,7 @@ use Rattle.grind_polynomials.proofs.ReductionLemmas.{reducer-none, reducer-cons,
 pub factor-made : (found : Target) (h : ℕ) (factor next : ℤ) → factor_after found h factor ≡ Ok next → next ≡ unit found h *ℤ factor
 unfolding factor_after
 factor-made found h factor next e =
-    let w = made_of (λ u. fit (u *ℤ factor)) (fit (unit found h)) next e in
+    let w = made_of (λ u. fit_or_refuse (u *ℤ factor)) (fit_or_refuse (unit found h)) next e in
     fit_is (w.0 *ℤ factor) next w.2 ∙ ap (λ (u : ℤ). u *ℤ factor) (fit_is (unit found h) w.0 w.1)
 
 -- ---- values

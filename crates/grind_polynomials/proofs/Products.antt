@@ -5,21 +5,21 @@ use Rattle.grind_monomials.specs.Monomials.{product}
 use Rattle.grind_polynomials.specs.declared.poly.Term.{Term}
 use Rattle.grind_polynomials.specs.declared.poly.PolyRefusal.{PolyRefusal}
 use Rattle.grind_polynomials.specs.declared.poly.PolyRefusal.TheVariants.{Degree}
-use Rattle.grind_polynomials.specs.Polynomials.{is_over, fit}
+use Rattle.grind_polynomials.specs.Polynomials.{is_over, fit_or_refuse}
 use Rattle.grind_polynomials.specs.Sums.{and_then, signed, with_more, with_multiple, with_multiples, with_product, with_products, with_all_products}
 
 -- ---- a multiple of a term
 module _ (minus : Bool) (c : ℤ) (m : List ℕ) (b : Term) (terms : List Term) where
   pub multiple-is : with_multiple minus c m b terms
-      ≡ and_then (λ number. with_more (signed minus number) (product m b.monomial) terms) (fit (c *ℤ b.coefficient))
+      ≡ and_then (λ number. with_more (signed minus number) (product m b.monomial) terms) (fit_or_refuse (c *ℤ b.coefficient))
   unfolding with_multiple
   multiple-is = refl
 
-  pub multiple-refused : (e : PolyRefusal) → fit (c *ℤ b.coefficient) ≡ Err e → with_multiple minus c m b terms ≡ Err e
+  pub multiple-refused : (e : PolyRefusal) → fit_or_refuse (c *ℤ b.coefficient) ≡ Err e → with_multiple minus c m b terms ≡ Err e
   multiple-refused e over =
       multiple-is ∙ ap (and_then (λ number. with_more (signed minus number) (product m b.monomial) terms)) over
 
-  pub multiple-goes_on : (number : ℤ) (whole : List ℕ) → fit (c *ℤ b.coefficient) ≡ Ok number → whole ≡ product m b.monomial
+  pub multiple-goes_on : (number : ℤ) (whole : List ℕ) → fit_or_refuse (c *ℤ b.coefficient) ≡ Ok number → whole ≡ product m b.monomial
       → with_multiple minus c m b terms ≡ with_more (signed minus number) whole terms
   multiple-goes_on number whole fits is =
       multiple-is

@@ -9,7 +9,7 @@ use Rattle.grind_monomials.specs.Order.{place}
 use Rattle.grind_polynomials.specs.declared.poly.Term.{Term}
 use Rattle.grind_polynomials.specs.declared.poly.PolyRefusal.{PolyRefusal}
 use Rattle.grind_polynomials.specs.declared.poly.PolyRefusal.TheVariants.{Overflow}
-use Rattle.grind_polynomials.specs.Polynomials.{fit}
+use Rattle.grind_polynomials.specs.Polynomials.{fit_or_refuse}
 use Rattle.grind_polynomials.specs.Sums.{and_then, in_front, front, behind, more_beside, with_more}
 
 -- ---- the clauses
@@ -57,7 +57,7 @@ reverse-push rest x = reverse-append rest (x ∷ [])
 -- ---- the loop
 -- the number is what the sum of the coefficient at the monomial and the addend is, and it is put behind what is done
 pub closes : (done all others : List Term) (m : List ℕ) (number : Option ℤ) (z : ℤ)
-    → MatchOption number (fit z ≡ Err Overflow) (λ y. fit z ≡ Ok y)
+    → MatchOption number (fit_or_refuse z ≡ Err Overflow) (λ y. fit_or_refuse z ≡ Ok y)
     → IsSomeAnd number (λ c. all ≡ done ++ in_front c m others) → behind done (front z m others) ≡ Ok all
 closes done all others m None z e h = absurd h
 closes done all others m (Some c) z e h =
@@ -65,7 +65,7 @@ closes done all others m (Some c) z e h =
     ∙ ap (λ (terms : List Term). Ok terms) (sym h)
 
 pub closes-not : (done others : List Term) (m : List ℕ) (number : Option ℤ) (z : ℤ)
-    → MatchOption number (fit z ≡ Err Overflow) (λ y. fit z ≡ Ok y) → number ≡ None → behind done (front z m others) ≡ Err Overflow
+    → MatchOption number (fit_or_refuse z ≡ Err Overflow) (λ y. fit_or_refuse z ≡ Ok y) → number ≡ None → behind done (front z m others) ≡ Err Overflow
 closes-not done others m None z e is =
     ap (λ (r : Result ℤ PolyRefusal). behind done (and_then (λ number. Ok (in_front number m others)) r)) e
 closes-not done others m (Some c) z e is = absurd cc

@@ -6,7 +6,7 @@ use Rattle.grind_monomials.specs.Monomials.{IsMonomial, quotient}
 use Rattle.grind_monomials.proofs.CountLemmas.{rises-quotient}
 use Rattle.grind_polynomials.specs.declared.poly.Term.{Term}
 use Rattle.grind_polynomials.specs.declared.poly.PolyRefusal.{PolyRefusal}
-use Rattle.grind_polynomials.specs.Polynomials.{term_of, StartsBelow, IsPoly, fit}
+use Rattle.grind_polynomials.specs.Polynomials.{term_of, StartsBelow, IsPoly, fit_or_refuse}
 use Rattle.grind_polynomials.specs.Sums.{and_then, behind, with_multiples}
 use Rattle.grind_polynomials.specs.Pairs.{lead_coefficient, lead_monomial}
 use Rattle.grind_polynomials.specs.Reduction.{is_one, reducer, Target, target_of, target_or, target, unit, weight, scaled, rest_after, factor_after, IsTargetGcd}
@@ -77,18 +77,18 @@ unfolding scaled
 scaled-nil u = refl
 
 pub scaled-cons : (u : ℤ) (t : Term) (ts : List Term) → scaled u (t ∷ ts)
-    ≡ and_then (λ c. behind (term_of c t.monomial ∷ []) (scaled u ts)) (fit (u *ℤ t.coefficient))
+    ≡ and_then (λ c. behind (term_of c t.monomial ∷ []) (scaled u ts)) (fit_or_refuse (u *ℤ t.coefficient))
 unfolding scaled
 scaled-cons u t ts = refl
 
 module _ (u : ℤ) (whole : Result (List Term) PolyRefusal) (done terms : List Term) (t : Term) (ts : List Term)
     (is : terms ≡ t ∷ ts) (so_far : behind done (scaled u terms) ≡ whole) where
-  pub scale_fails : (e : PolyRefusal) → fit (u *ℤ t.coefficient) ≡ Err e → whole ≡ Err e
+  pub scale_fails : (e : PolyRefusal) → fit_or_refuse (u *ℤ t.coefficient) ≡ Err e → whole ≡ Err e
   scale_fails e f =
       sym so_far ∙ ap (λ (all : List Term). behind done (scaled u all)) is ∙ ap (behind done) (scaled-cons u t ts)
       ∙ ap (λ (r : Result ℤ PolyRefusal). behind done (and_then (λ c. behind (term_of c t.monomial ∷ []) (scaled u ts)) r)) f
 
-  pub scale_step : (c : ℤ) (new : List Term) → fit (u *ℤ t.coefficient) ≡ Ok c → new ≡ done ++ term_of c t.monomial ∷ []
+  pub scale_step : (c : ℤ) (new : List Term) → fit_or_refuse (u *ℤ t.coefficient) ≡ Ok c → new ≡ done ++ term_of c t.monomial ∷ []
       → behind new (scaled u ts) ≡ whole
   scale_step c new f e =
       ap (λ (all : List Term). behind all (scaled u ts)) e
@@ -106,7 +106,7 @@ scale_end u whole done (t ∷ ts) e so_far same = absurd (omega arith)
 pub scaled-made : (u : ℤ) (t : Term) (ts all : List Term) → scaled u (t ∷ ts) ≡ Ok all
     → (c : ℤ) × (later : List Term) × (c ≡ u *ℤ t.coefficient) × (scaled u ts ≡ Ok later) × (term_of c t.monomial ∷ later ≡ all)
 scaled-made u t ts all e =
-    let w = made_of (λ c. behind (term_of c t.monomial ∷ []) (scaled u ts)) (fit (u *ℤ t.coefficient)) all (sym (scaled-cons u t ts) ∙ e) in
+    let w = made_of (λ c. behind (term_of c t.monomial ∷ []) (scaled u ts)) (fit_or_refuse (u *ℤ t.coefficient)) all (sym (scaled-cons u t ts) ∙ e) in
     let b = behind-made (term_of w.0 t.monomial ∷ []) (scaled u ts) all w.2 in
     (w.0, b.0, fit_is (u *ℤ t.coefficient) w.0 w.1, b.1, b.2)
 
@@ -133,29 +133,29 @@ poly-scaled u terms all some poly e = (scaled-keeps u terms all some poly e).pol
 
 -- ---- a step
 module _ (found : Target) (h : ℕ) (rest : List Term) where
-  pub rest-unit : (e : PolyRefusal) → fit (unit found h) ≡ Err e → rest_after found h rest ≡ Err e
+  pub rest-unit : (e : PolyRefusal) → fit_or_refuse (unit found h) ≡ Err e → rest_after found h rest ≡ Err e
   unfolding rest_after
   rest-unit e over =
       ap (and_then (λ u. and_then (λ w. and_then
       (with_multiples true w (quotient found.term.monomial (lead_monomial found.element)) found.element) (scaled u rest))
-      (fit (weight found h)))) over
+      (fit_or_refuse (weight found h)))) over
 
-  rest-opened : (u : ℤ) → fit (unit found h) ≡ Ok u → rest_after found h rest ≡ and_then (λ w. and_then
+  rest-opened : (u : ℤ) → fit_or_refuse (unit found h) ≡ Ok u → rest_after found h rest ≡ and_then (λ w. and_then
       (with_multiples true w (quotient found.term.monomial (lead_monomial found.element)) found.element) (scaled u rest))
-      (fit (weight found h))
+      (fit_or_refuse (weight found h))
   unfolding rest_after
   rest-opened u e =
       ap (and_then (λ u. and_then (λ w. and_then
       (with_multiples true w (quotient found.term.monomial (lead_monomial found.element)) found.element) (scaled u rest))
-      (fit (weight found h)))) e
+      (fit_or_refuse (weight found h)))) e
 
-  pub rest-weight : (u : ℤ) (e : PolyRefusal) → fit (unit found h) ≡ Ok u → fit (weight found h) ≡ Err e → rest_after found h rest ≡ Err e
+  pub rest-weight : (u : ℤ) (e : PolyRefusal) → fit_or_refuse (unit found h) ≡ Ok u → fit_or_refuse (weight found h) ≡ Err e → rest_after found h rest ≡ Err e
   rest-weight u e one over =
       rest-opened u one
       ∙ ap (and_then (λ w. and_then
       (with_multiples true w (quotient found.term.monomial (lead_monomial found.element)) found.element) (scaled u rest))) over
 
-  pub rest-goes_on : (u w : ℤ) (more : List ℕ) → fit (unit found h) ≡ Ok u → fit (weight found h) ≡ Ok w
+  pub rest-goes_on : (u w : ℤ) (more : List ℕ) → fit_or_refuse (unit found h) ≡ Ok u → fit_or_refuse (weight found h) ≡ Ok w
       → more ≡ quotient found.term.monomial (lead_monomial found.element)
       → rest_after found h rest ≡ and_then (with_multiples true w more found.element) (scaled u rest)
   rest-goes_on u w more one two is =
@@ -164,9 +164,9 @@ module _ (found : Target) (h : ℕ) (rest : List Term) where
       (with_multiples true w (quotient found.term.monomial (lead_monomial found.element)) found.element) (scaled u rest))) two
       ∙ ap (λ (monomial : List ℕ). and_then (with_multiples true w monomial found.element) (scaled u rest)) (sym is)
 
-pub factor-unit : (found : Target) (h : ℕ) (factor u : ℤ) → fit (unit found h) ≡ Ok u → factor_after found h factor ≡ fit (u *ℤ factor)
+pub factor-unit : (found : Target) (h : ℕ) (factor u : ℤ) → fit_or_refuse (unit found h) ≡ Ok u → factor_after found h factor ≡ fit_or_refuse (u *ℤ factor)
 unfolding factor_after
-factor-unit found h factor u e = ap (and_then (λ u. fit (u *ℤ factor))) e
+factor-unit found h factor u e = ap (and_then (λ u. fit_or_refuse (u *ℤ factor))) e
 
 -- what a step is made of
 pub rest-made : (found : Target) (h : ℕ) (rest next : List Term) → rest_after found h rest ≡ Ok next
@@ -176,10 +176,10 @@ unfolding rest_after
 rest-made found h rest next e =
     let one = made_of (λ u. and_then (λ w. and_then
     (with_multiples true w (quotient found.term.monomial (lead_monomial found.element)) found.element) (scaled u rest))
-    (fit (weight found h))) (fit (unit found h)) next e in
+    (fit_or_refuse (weight found h))) (fit_or_refuse (unit found h)) next e in
     let two = made_of (λ w. and_then
     (with_multiples true w (quotient found.term.monomial (lead_monomial found.element)) found.element) (scaled one.0 rest))
-    (fit (weight found h)) next one.2 in
+    (fit_or_refuse (weight found h)) next one.2 in
     let three = made_of (with_multiples true two.0 (quotient found.term.monomial (lead_monomial found.element)) found.element)
     (scaled one.0 rest) next two.2 in
     (one.0, two.0, three.0, fit_is (unit found h) one.0 one.1, fit_is (weight found h) two.0 two.1, three.1, three.2)

@@ -18,9 +18,9 @@ use Rattle.grind_monomials.proofs.Orders.{place-same, place-chain}
 use Rattle.grind_polynomials.specs.declared.keys.Key.{Key}
 use Rattle.grind_polynomials.specs.declared.poly.Term.{Term}
 use Rattle.grind_polynomials.specs.declared.poly.PolyRefusal.{PolyRefusal}
-use Rattle.grind_polynomials.specs.Polynomials.{IsPoly, term_of, fit}
+use Rattle.grind_polynomials.specs.Polynomials.{IsPoly, term_of, fit_or_refuse}
 use Rattle.grind_polynomials.specs.Keys.{order_of, descending_total}
-use Rattle.grind_polynomials.specs.Running.{key_order, entry_terms, coefficient_at, with_coefficient}
+use Rattle.grind_polynomials.specs.Running.{key_order, entry_terms, coefficient_of_key, with_coefficient}
 use Rattle.grind_polynomials.specs.Sums.{and_then, in_front, behind, with_more}
 use Rattle.grind_polynomials.proofs.Putting.{more-nil, more-above, more-same, more-below, zero_first}
 
@@ -29,8 +29,8 @@ key_order_total = on_total (λ k. k.monomial) descending_total
 
 -- what is made of two numbers that are one is one
 same_made : (x y : ℤ) (f g : ℤ → List Term) → x ≡ y → ((c : ℤ) → f c ≡ g c)
-    → and_then (λ c. Ok (f c)) (fit x) ≡ and_then (λ c. Ok (g c)) (fit y)
-same_made x y f g e h = λ i. and_then (λ c. Ok (h c i)) (fit (e i))
+    → and_then (λ c. Ok (f c)) (fit_or_refuse x) ≡ and_then (λ c. Ok (g c)) (fit_or_refuse y)
+same_made x y f g e h = λ i. and_then (λ c. Ok (h c i)) (fit_or_refuse (e i))
 
 behind-made_of : (x : Term) (f : ℤ → List Term) (r : Result ℤ PolyRefusal)
     → behind (x ∷ []) (and_then (λ c. Ok (f c)) r) ≡ and_then (λ c. Ok (x ∷ f c)) r
@@ -44,10 +44,10 @@ remove-none test (e ∷ es) none =
 
 -- ---- the coefficient at a key, and another one put there
 module _ (key : Key) (e : Key × ℤ) (es : List (Key × ℤ)) where
-  at-above : place e.0.monomial key.monomial ≡ Above → coefficient_at key (e ∷ es) ≡ coefficient_at key es
+  at-above : place e.0.monomial key.monomial ≡ Above → coefficient_of_key key (e ∷ es) ≡ coefficient_of_key key es
   at-above is = λ i. unwrap_or (cond (is_eq (order_of (is i))) (Some e.1) (lookup (is_at (key_order key)) es)) (pos 0)
 
-  at-same : place e.0.monomial key.monomial ≡ Same → coefficient_at key (e ∷ es) ≡ e.1
+  at-same : place e.0.monomial key.monomial ≡ Same → coefficient_of_key key (e ∷ es) ≡ e.1
   at-same is = λ i. unwrap_or (cond (is_eq (order_of (is i))) (Some e.1) (lookup (is_at (key_order key)) es)) (pos 0)
 
   put-above : place e.0.monomial key.monomial ≡ Above → (c : ℤ)
@@ -73,7 +73,7 @@ module _ (key : Key) (e : Key × ℤ) (es : List (Key × ℤ)) where
     none-below : NonePasses (is_at (key_order key)) (e ∷ es)
     none-below = none_below_head key_order_total key e es sorted (ap order_of is)
 
-    at-below : coefficient_at key (e ∷ es) ≡ pos 0
+    at-below : coefficient_of_key key (e ∷ es) ≡ pos 0
     at-below = ap (λ (found : Option ℤ). unwrap_or found (pos 0)) (lookup-none (is_at (key_order key)) (e ∷ es) none-below)
 
     put-below : (c : ℤ) → in_front c key.monomial (entry_terms (e ∷ es)) ≡ entry_terms (with_coefficient c key (e ∷ es))
@@ -90,11 +90,11 @@ put-nil key (negsuc n) = refl
 
 -- ---- a multiple of a monomial more
 abbrev made_at : ℤ → Key → List (Key × ℤ) → Result (List Term) PolyRefusal
-made_at z key es = and_then (λ c. Ok (entry_terms (with_coefficient c key es))) (fit (coefficient_at key es +ℤ z))
+made_at z key es = and_then (λ c. Ok (entry_terms (with_coefficient c key es))) (fit_or_refuse (coefficient_of_key key es +ℤ z))
 
 pub more-is : (z : ℤ) (key : Key) (es : List (Key × ℤ)) → IsStrictlySortedBy key_order (keys_of es)
     → with_more z key.monomial (entry_terms es)
-    ≡ and_then (λ c. Ok (entry_terms (with_coefficient c key es))) (fit (coefficient_at key es +ℤ z))
+    ≡ and_then (λ c. Ok (entry_terms (with_coefficient c key es))) (fit_or_refuse (coefficient_of_key key es +ℤ z))
 more-is z key [] sorted =
     more-nil z key.monomial
     ∙ same_made z (pos 0 +ℤ z) (λ c. in_front c key.monomial []) (λ c. entry_terms (with_coefficient c key [])) (sym (zero_first z)) (put-nil key)
@@ -106,30 +106,30 @@ more-is z key (e ∷ es) sorted =
     at_place Above is later =
         more-above z key.monomial (term_of e.1 e.0.monomial) (entry_terms es) is
         ∙ ap (behind (term_of e.1 e.0.monomial ∷ [])) later
-        ∙ behind-made_of (term_of e.1 e.0.monomial) (λ c. entry_terms (with_coefficient c key es)) (fit (coefficient_at key es +ℤ z))
-        ∙ same_made (coefficient_at key es +ℤ z) (coefficient_at key (e ∷ es) +ℤ z)
+        ∙ behind-made_of (term_of e.1 e.0.monomial) (λ c. entry_terms (with_coefficient c key es)) (fit_or_refuse (coefficient_of_key key es +ℤ z))
+        ∙ same_made (coefficient_of_key key es +ℤ z) (coefficient_of_key key (e ∷ es) +ℤ z)
         (λ c. term_of e.1 e.0.monomial ∷ entry_terms (with_coefficient c key es)) (λ c. entry_terms (with_coefficient c key (e ∷ es)))
         (ap (λ (x : ℤ). x +ℤ z) (sym (at-above key e es is))) (λ c. ap entry_terms (sym (put-above key e es is c)))
     at_place Same is later =
         more-same z key.monomial (term_of e.1 e.0.monomial) (entry_terms es) is
-        ∙ same_made (e.1 +ℤ z) (coefficient_at key (e ∷ es) +ℤ z)
+        ∙ same_made (e.1 +ℤ z) (coefficient_of_key key (e ∷ es) +ℤ z)
         (λ c. in_front c key.monomial (entry_terms es)) (λ c. entry_terms (with_coefficient c key (e ∷ es)))
         (ap (λ (x : ℤ). x +ℤ z) (sym (at-same key e es is))) (put-same key e es is)
     at_place Below is later =
         more-below z key.monomial (term_of e.1 e.0.monomial) (entry_terms es) is
-        ∙ same_made z (coefficient_at key (e ∷ es) +ℤ z)
+        ∙ same_made z (coefficient_of_key key (e ∷ es) +ℤ z)
         (λ c. in_front c key.monomial (entry_terms (e ∷ es))) (λ c. entry_terms (with_coefficient c key (e ∷ es)))
         (sym (ap (λ (x : ℤ). x +ℤ z) (at-below key e es sorted is) ∙ zero_first z)) (put-below key e es sorted is)
 
 module _ (z : ℤ) (key : Key) (es new : List (Key × ℤ)) (sorted : IsStrictlySortedBy key_order (keys_of es)) where
-  pub more_put : (c : ℤ) → fit (coefficient_at key es +ℤ z) ≡ Ok c → new ≡ with_coefficient c key es
+  pub more_put : (c : ℤ) → fit_or_refuse (coefficient_of_key key es +ℤ z) ≡ Ok c → new ≡ with_coefficient c key es
       → with_more z key.monomial (entry_terms es) ≡ Ok (entry_terms new)
   more_put c fits is =
       more-is z key es sorted
       ∙ ap (and_then (λ c. Ok (entry_terms (with_coefficient c key es)))) fits
       ∙ ap (λ (entries : List (Key × ℤ)). Ok (entry_terms entries)) (sym is)
 
-  pub more_refused : (refusal : PolyRefusal) → fit (coefficient_at key es +ℤ z) ≡ Err refusal
+  pub more_refused : (refusal : PolyRefusal) → fit_or_refuse (coefficient_of_key key es +ℤ z) ≡ Err refusal
       → with_more z key.monomial (entry_terms es) ≡ Err refusal
   more_refused refusal over =
       more-is z key es sorted ∙ ap (and_then (λ c. Ok (entry_terms (with_coefficient c key es)))) over

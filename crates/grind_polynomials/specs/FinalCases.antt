@@ -3,9 +3,9 @@ use Rattle.std.specs.Prelude.{◌≡◌, ◌^◌, [], ◌∷◌, Result, Ok, Err
 use Rattle.std.proofs.Common.{subst}
 use Rattle.grind_monomials.specs.Monomials.{quotient, quotient_from}
 use Rattle.grind_polynomials.specs.declared.poly.PolyRefusal.{PolyRefusal}
-use Rattle.grind_polynomials.specs.Polynomials.{term_of, fit}
+use Rattle.grind_polynomials.specs.Polynomials.{term_of, fit_or_refuse}
 use Rattle.grind_polynomials.specs.Gathering.{move_by}
-use Rattle.grind_polynomials.specs.FinalFactors.{taken, shares, left_by, shared_out, EachFits}
+use Rattle.grind_polynomials.specs.FinalFactors.{reduced_terms, shares, left_by, shared_out, EachFits}
 
 -- `6xy + 5y`: to `x` goes the first term, divided by `x`, and the second is left
 pub shared_to_x : shares (term_of (pos 7) (2 ∷ []) ∷ []) (term_of (pos 6) (2 ∷ 3 ∷ []) ∷ term_of (pos 5) (3 ∷ []) ∷ [])
@@ -38,12 +38,12 @@ unfolding shares left_by quotient quotient_from
 first_has_both = refl
 
 -- a weight of 3, then a move by 2 and a weight of 5: the first is taken 6 times in the end
-pub later_units_count : taken (move_by true (pos 9) (pos 3) (2 ∷ []) ∷ move_by true (pos 2) (pos 5) (3 ∷ []) ∷ [])
+pub later_units_count : reduced_terms (move_by true (pos 9) (pos 3) (2 ∷ []) ∷ move_by true (pos 2) (pos 5) (3 ∷ []) ∷ [])
     ≡ term_of (negsuc 5) (2 ∷ []) ∷ term_of (negsuc 4) (3 ∷ []) ∷ []
 later_units_count = refl
 
 -- `2^100 x + y` by `x`, and then by `2^30 y`: in the end `x` is taken 2^130 times
-pub later_units_grow : taken (move_by false (pos 1) (pos (2 ^ 100)) (2 ∷ []) ∷ move_by false (pos (2 ^ 30)) (pos 1) (3 ∷ []) ∷ [])
+pub later_units_grow : reduced_terms (move_by false (pos 1) (pos (2 ^ 100)) (2 ∷ []) ∷ move_by false (pos (2 ^ 30)) (pos 1) (3 ∷ []) ∷ [])
     ≡ term_of (pos (2 ^ 130)) (2 ∷ []) ∷ term_of (pos 1) (3 ∷ []) ∷ []
 later_units_grow = refl
 
@@ -53,13 +53,13 @@ IsRefused (Err refusal) = ⊤
 
 -- -2^127 fits, and neither 2^127 nor 2^130 does
 pub least_fits : EachFits (term_of (negsuc 170141183460469231731687303715884105727) [] ∷ [])
-unfolding fit
+unfolding fit_or_refuse
 least_fits = (refl, tt)
 
 pub most_does_not_fit : EachFits (term_of (pos (2 ^ 127)) [] ∷ []) → ⊥
-unfolding fit IsRefused
+unfolding fit_or_refuse IsRefused
 most_does_not_fit h = subst IsRefused h.0 tt
 
 pub grown_does_not_fit : EachFits (term_of (pos (2 ^ 130)) [] ∷ []) → ⊥
-unfolding fit IsRefused
+unfolding fit_or_refuse IsRefused
 grown_does_not_fit h = subst IsRefused h.0 tt

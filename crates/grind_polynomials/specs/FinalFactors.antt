@@ -5,7 +5,7 @@ use Rattle.grind_polynomials.specs.declared.poly.Term.{Term}
 use Rattle.grind_polynomials.specs.declared.poly.PolyRefusal.TheVariants.{Overflow}
 use Rattle.grind_polynomials.specs.declared.reduction.Reduced.{Reduced}
 use Rattle.grind_polynomials.specs.declared.factors.Factors.{Factors}
-use Rattle.grind_polynomials.specs.Polynomials.{term_of, IsPoly, fit}
+use Rattle.grind_polynomials.specs.Polynomials.{term_of, IsPoly, fit_or_refuse}
 use Rattle.grind_polynomials.specs.Sums.{signed}
 use Rattle.grind_polynomials.specs.Pairs.{lead_monomial}
 use Rattle.grind_polynomials.specs.Reduction.{reduced_of, is_one, target, Steps, Reduces, IsContent}
@@ -28,9 +28,9 @@ units [] = pos 1
 units (move ∷ later) = move.unit *ℤ units later
 
 -- the monomials that were reduced, each as often as it was taken: the units of the later moves times the weight
-abbrev pub taken : List Move → List Term
-taken [] = []
-taken (move ∷ later) = term_of (units later *ℤ signed move.minus move.weight) move.monomial ∷ taken later
+abbrev pub reduced_terms : List Move → List Term
+reduced_terms [] = []
+reduced_terms (move ∷ later) = term_of (units later *ℤ signed move.minus move.weight) move.monomial ∷ reduced_terms later
 
 -- the leading monomial of the element divides that of the term
 abbrev pub divides_term : List Term → Term → Bool
@@ -60,12 +60,12 @@ pub record IsFinal (basis : List (List Term)) (p : List Term) (factors : Factors
   pub made_is : Reduces basis (reduced_of (pos 1) p) (Ok made)
   pub content_is : IsContent made content
   pub moves_are : Moves basis (has_terms made.rest) (reduced_of (pos 1) p) moves
-  pub factors_are : factors ≡ factors_by made content (shared_out basis (taken moves)) (has_terms made.rest)
+  pub factors_are : factors ≡ factors_by made content (shared_out basis (reduced_terms moves)) (has_terms made.rest)
 
 -- each coefficient fits
 abbrev pub EachFits : List Term → Type 0
 EachFits [] = ⊤
-EachFits (term ∷ rest) = (fit term.coefficient ≡ Ok term.coefficient) × EachFits rest
+EachFits (term ∷ rest) = (fit_or_refuse term.coefficient ≡ Ok term.coefficient) × EachFits rest
 
 -- and so it is in each of the lists
 abbrev pub AllFit : List (List Term) → Type 0
@@ -74,8 +74,8 @@ AllFit (q ∷ qs) = EachFits q × AllFit qs
 
 -- each number in the factors fits
 pub record FactorsFit (factors : Factors) : Type 0 where
-  pub divisor : fit factors.divisor ≡ Ok factors.divisor
-  pub own : fit factors.own ≡ Ok factors.own
+  pub divisor : fit_or_refuse factors.divisor ≡ Ok factors.divisor
+  pub own : fit_or_refuse factors.own ≡ Ok factors.own
   pub list : AllFit factors.list
 
 -- the reduction ends, and a number in its factors does not fit

@@ -6,7 +6,7 @@ use Rattle.grind_polynomials.specs.declared.poly.PolyRefusal.{PolyRefusal}
 use Rattle.grind_polynomials.specs.declared.poly.PolyRefusal.TheVariants.{Overflow}
 use Rattle.grind_polynomials.specs.declared.reduction.Reduced.{Reduced}
 use Rattle.grind_polynomials.specs.declared.factors.Factors.{Factors}
-use Rattle.grind_polynomials.specs.Polynomials.{fit}
+use Rattle.grind_polynomials.specs.Polynomials.{fit_or_refuse}
 use Rattle.grind_polynomials.specs.Sums.{and_then, signed, with_more}
 use Rattle.grind_polynomials.specs.Pairs.{lead_monomial}
 use Rattle.grind_polynomials.specs.Values.{poly_value}
@@ -112,7 +112,7 @@ pub record Spills (basis : List (List Term)) (p : List Term) : Type 0 where
   pub made_is : Reduces basis (reduced_of (pos 1) p) (Ok made)
   pub content_is : IsContent made content
   pub refused : Gathers basis (has_terms made.rest) (reduced_of (pos 1) p) (no_factors basis) (Err Overflow)
-      ⊎ ((has_terms made.rest ≡ true) × (fit (pos content) ≡ Err Overflow))
+      ⊎ ((has_terms made.rest ≡ true) × (fit_or_refuse (pos content) ≡ Err Overflow))
 
 -- the sum of the factors, each times its basis element, at a table of values
 abbrev pub products_value : (ℕ → ℤ) → List (List Term) → List (List Term) → ℤ

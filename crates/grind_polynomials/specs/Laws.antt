@@ -5,7 +5,7 @@ use Rattle.grind_monomials.specs.Monomials.{quotient}
 use Rattle.grind_monomials.specs.Counts.{monomial_value}
 use Rattle.grind_polynomials.specs.Pairs.{divided_by, lead_coefficient, lead_monomial, lead_multiple, s_polynomial}
 use Rattle.grind_term_graph.specs.declared.node.Node.{Node}
-use Rattle.grind_linear_forms.specs.Values.{RespectsArithmetic}
+use Rattle.grind_reach.specs.Values.{RespectsArithmetic}
 use Rattle.grind_polynomials.specs.Readings.{polynomial}
 use Rattle.grind_polynomials.specs.declared.poly.PolyRefusal.{PolyRefusal}
 use Rattle.grind_polynomials.specs.declared.reduction.Reduced.{Reduced}

@@ -1,3 +1,4 @@
+pub mod Numbers
 pub mod Polynomials
 pub mod Sums
 pub mod Keys
@@ -7,7 +8,6 @@ pub mod Rows
 pub mod RowCases
 pub mod Values
 pub mod Readings
-pub mod Marks
 pub mod Pairs
 pub mod Reduction
 pub mod Ranks

@@ -1,11 +1,11 @@
 -- Polynomials: sums of monomials with coefficients.
-use Rattle.std.specs.Prelude.{◌≡◌, ◌≢◌, ℕ, ◌^◌, List, [], ◌∷◌, length, Result, Ok, Err, nat_lt, Bool, if◌then◌else◌, ⊤, ℤ, pos, negsuc}
+use Rattle.std.specs.Prelude.{◌≡◌, ◌≢◌, ℕ, List, [], ◌∷◌, length, nat_lt, Bool, ⊤, ℤ, pos}
 use Rattle.grind_monomials.specs.declared.order.Place.TheVariants.{Above}
 use Rattle.grind_monomials.specs.Order.{place}
 use Rattle.grind_monomials.specs.Monomials.{IsMonomial}
 use Rattle.grind_polynomials.specs.declared.poly.Term.{Term}
-use Rattle.grind_polynomials.specs.declared.poly.PolyRefusal.{PolyRefusal}
-use Rattle.grind_polynomials.specs.declared.poly.PolyRefusal.TheVariants.{Overflow}
+unfoldable pub use Rattle.grind_polynomials.specs.Numbers.{fit_or_refuse}
+unfoldable pub use Rattle.grind_polynomials.specs.Numbers.{fit_or_refuse as fit}
 
 -- the monomial with this coefficient
 abbrev pub term_of : ℤ → List ℕ → Term
@@ -30,8 +30,3 @@ degree (term ∷ rest) = length term.monomial
 -- a degree that no product may have
 abbrev pub is_over : ℕ → Bool
 is_over degree = nat_lt 16 degree
-
--- the number, where it fits in 128 bits
-unfoldable pub fit : ℤ → Result ℤ PolyRefusal
-fit (pos n) = if nat_lt n (2 ^ 127) then Ok (pos n) else Err Overflow
-fit (negsuc n) = if nat_lt n (2 ^ 127) then Ok (negsuc n) else Err Overflow

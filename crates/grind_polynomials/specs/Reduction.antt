@@ -6,7 +6,7 @@ use Rattle.grind_polynomials.specs.declared.poly.Term.{Term}
 use Rattle.grind_polynomials.specs.declared.poly.PolyRefusal.{PolyRefusal}
 use Rattle.grind_polynomials.specs.declared.poly.PolyRefusal.TheVariants.{Overflow}
 use Rattle.grind_polynomials.specs.declared.reduction.Reduced.{Reduced}
-use Rattle.grind_polynomials.specs.Polynomials.{term_of, fit}
+use Rattle.grind_polynomials.specs.Polynomials.{term_of, fit_or_refuse}
 use Rattle.grind_polynomials.specs.Sums.{and_then, signed, behind, with_multiples}
 use Rattle.grind_polynomials.specs.Pairs.{divided_by, lead_coefficient, lead_monomial}
 
@@ -63,18 +63,18 @@ weight found h = signed (is_negative (lead_coefficient found.element)) (divided_
 unfoldable pub scaled : ℤ → List Term → Result (List Term) PolyRefusal
 scaled number [] = Ok []
 scaled number (term ∷ rest) =
-    and_then (λ coefficient. behind (term_of coefficient term.monomial ∷ []) (scaled number rest)) (fit (number *ℤ term.coefficient))
+    and_then (λ coefficient. behind (term_of coefficient term.monomial ∷ []) (scaled number rest)) (fit_or_refuse (number *ℤ term.coefficient))
 
 -- the unit times the rest, less the weight and a monomial times the element
 unfoldable pub rest_after : Target → ℕ → List Term → Result (List Term) PolyRefusal
 rest_after found h rest =
     and_then (λ u. and_then (λ w. and_then
     (with_multiples true w (quotient found.term.monomial (lead_monomial found.element)) found.element) (scaled u rest))
-    (fit (weight found h))) (fit (unit found h))
+    (fit_or_refuse (weight found h))) (fit_or_refuse (unit found h))
 
 -- the unit times the factor
 unfoldable pub factor_after : Target → ℕ → ℤ → Result ℤ PolyRefusal
-factor_after found h factor = and_then (λ u. fit (u *ℤ factor)) (fit (unit found h))
+factor_after found h factor = and_then (λ u. fit_or_refuse (u *ℤ factor)) (fit_or_refuse (unit found h))
 
 -- by this term and this element, one step leads from a factor and a rest to others
 pub record StepsBy (found : Target) (now next : Reduced) : Type 0 where

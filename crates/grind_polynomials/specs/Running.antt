@@ -23,8 +23,8 @@ abbrev pub terms_of : BTreeMap Key ℤ → List Term
 terms_of sum = entry_terms sum.entries
 
 -- the coefficient at the key, and 0 where there is none
-abbrev pub coefficient_at : Key → List (Key × ℤ) → ℤ
-coefficient_at key entries = unwrap_or (lookup (is_at (key_order key)) entries) (pos 0)
+abbrev pub coefficient_of_key : Key → List (Key × ℤ) → ℤ
+coefficient_of_key key entries = unwrap_or (lookup (is_at (key_order key)) entries) (pos 0)
 
 -- the entries with this coefficient at the key; one of 0 is left out
 abbrev pub with_coefficient : ℤ → Key → List (Key × ℤ) → List (Key × ℤ)

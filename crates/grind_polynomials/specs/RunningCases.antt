@@ -5,7 +5,7 @@ use Rattle.grind_monomials.specs.Order.{place, place_by_nodes}
 use Rattle.grind_polynomials.specs.declared.keys.Key.{Key}
 use Rattle.grind_polynomials.specs.Polynomials.{term_of}
 use Rattle.grind_polynomials.specs.Keys.{descending}
-use Rattle.grind_polynomials.specs.Running.{entry_terms, coefficient_at, with_coefficient}
+use Rattle.grind_polynomials.specs.Running.{entry_terms, coefficient_of_key, with_coefficient}
 
 abbrev key_of : List ℕ → Key
 key_of monomial = record { monomial = monomial }
@@ -31,11 +31,11 @@ pub as_terms : entry_terms entries ≡ term_of (pos 2) (2 ∷ 3 ∷ []) ∷ term
 as_terms = refl
 
 -- 4 stands at 1, and nothing at `y`
-pub found : coefficient_at (key_of []) entries ≡ pos 4
+pub found : coefficient_of_key (key_of []) entries ≡ pos 4
 unfolding place place_by_nodes
 found = refl
 
-pub not_found : coefficient_at (key_of (3 ∷ [])) entries ≡ pos 0
+pub not_found : coefficient_of_key (key_of (3 ∷ [])) entries ≡ pos 0
 unfolding place place_by_nodes
 not_found = refl
 

@@ -7,7 +7,7 @@ use Rattle.grind_monomials.specs.Monomials.{product}
 use Rattle.grind_polynomials.specs.declared.poly.Term.{Term}
 use Rattle.grind_polynomials.specs.declared.poly.PolyRefusal.{PolyRefusal}
 use Rattle.grind_polynomials.specs.declared.poly.PolyRefusal.TheVariants.{Degree}
-use Rattle.grind_polynomials.specs.Polynomials.{term_of, is_over, fit}
+use Rattle.grind_polynomials.specs.Polynomials.{term_of, is_over, fit_or_refuse}
 
 -- what is made of a value, where there is one
 abbrev pub and_then : {A B : Type 0} → (A → Result B PolyRefusal) → Result A PolyRefusal → Result B PolyRefusal
@@ -27,7 +27,7 @@ in_front (negsuc n) monomial rest = term_of (negsuc n) monomial ∷ rest
 
 -- the same, where the coefficient fits
 abbrev pub front : ℤ → List ℕ → List Term → Result (List Term) PolyRefusal
-front coefficient monomial rest = and_then (λ number. Ok (in_front number monomial rest)) (fit coefficient)
+front coefficient monomial rest = and_then (λ number. Ok (in_front number monomial rest)) (fit_or_refuse coefficient)
 
 -- terms behind others
 abbrev pub behind : List Term → Result (List Term) PolyRefusal → Result (List Term) PolyRefusal
@@ -49,7 +49,7 @@ with_more number monomial (term ∷ rest) =
 -- the terms, and the product of a coefficient and a monomial with a term, added or taken off
 unfoldable pub with_multiple : Bool → ℤ → List ℕ → Term → List Term → Result (List Term) PolyRefusal
 with_multiple minus coefficient monomial b terms =
-    and_then (λ number. with_more (signed minus number) (product monomial b.monomial) terms) (fit (coefficient *ℤ b.coefficient))
+    and_then (λ number. with_more (signed minus number) (product monomial b.monomial) terms) (fit_or_refuse (coefficient *ℤ b.coefficient))
 
 -- the terms, and the product with each of other terms in turn
 unfoldable pub with_multiples : Bool → ℤ → List ℕ → List Term → List Term → Result (List Term) PolyRefusal

@@ -4,19 +4,19 @@ ghost use Rattle.std.specs.Int.{IsGcd};
 ghost use Rattle.grind_polynomials.specs.Pairs.{divided_by};
 ghost use Rattle.grind_polynomials.specs.Reduction.{is_negative};
 ghost use Rattle.grind_polynomials.specs.declared.poly.PolyRefusal.TheVariants.{Overflow};
-ghost use Rattle.grind_polynomials.specs.Polynomials.{fit};
+ghost use Rattle.grind_polynomials.specs.Polynomials.{fit_or_refuse};
 ghost use Rattle.grind_polynomials.specs.Sums.{signed};
 
 // The product of two numbers, where it fits.
 pub(crate) fn product_of(x: i128, y: i128) -> Option<i128>
-    ensures { MatchOption result (fit (x *ℤ y) ≡ Err Overflow) (λ z. fit (x *ℤ y) ≡ Ok z) }
+    ensures { MatchOption result (fit_or_refuse (x *ℤ y) ≡ Err Overflow) (λ z. fit_or_refuse (x *ℤ y) ≡ Ok z) }
 {
     x.checked_mul(y)
 }
 
 // The sum of two numbers, or their difference, where it fits.
 pub(crate) fn sum_of(minus: bool, x: i128, y: i128) -> Option<i128>
-    ensures { MatchOption result (fit (x +ℤ signed minus y) ≡ Err Overflow) (λ z. fit (x +ℤ signed minus y) ≡ Ok z) }
+    ensures { MatchOption result (fit_or_refuse (x +ℤ signed minus y) ≡ Err Overflow) (λ z. fit_or_refuse (x +ℤ signed minus y) ≡ Ok z) }
 {
     if minus {
         return x.checked_sub(y);
@@ -73,7 +73,7 @@ fn magnitude(number: i128, divisor: u128) -> i128
 // How large the quotient of a number by another is, where that fits.
 pub(crate) fn unit_of(lead: i128, divisor: u128) -> Option<i128>
     requires { 0 < divisor }
-    ensures { MatchOption result (fit (pos (unsigned_abs lead / divisor)) ≡ Err Overflow) (λ u. fit (pos (unsigned_abs lead / divisor)) ≡ Ok u) }
+    ensures { MatchOption result (fit_or_refuse (pos (unsigned_abs lead / divisor)) ≡ Err Overflow) (λ u. fit_or_refuse (pos (unsigned_abs lead / divisor)) ≡ Ok u) }
 {
     let size = lead.unsigned_abs() / divisor;
     if size > 0x7fff_ffff_ffff_ffff_ffff_ffff_ffff_ffff {
@@ -85,8 +85,8 @@ pub(crate) fn unit_of(lead: i128, divisor: u128) -> Option<i128>
 // The quotient of a number by another, with its sign turned where the leading coefficient is negative.
 pub(crate) fn weight_of(lead: i128, number: i128, divisor: u128) -> Option<i128>
     requires { 0 < divisor }
-    ensures { MatchOption result (fit (signed (is_negative lead) (divided_by divisor number)) ≡ Err Overflow)
-        (λ w. fit (signed (is_negative lead) (divided_by divisor number)) ≡ Ok w) }
+    ensures { MatchOption result (fit_or_refuse (signed (is_negative lead) (divided_by divisor number)) ≡ Err Overflow)
+        (λ w. fit_or_refuse (signed (is_negative lead) (divided_by divisor number)) ≡ Ok w) }
 {
     let quotient = divided(number, divisor);
     sum_of(lead < 0, 0, quotient)

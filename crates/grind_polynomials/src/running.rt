@@ -3,7 +3,7 @@ ghost use Rattle.std.specs.Prelude.{◌≡◌, Ok, Err, IfOk, OnOk, IsErrOf};
 ghost use Rattle.std.specs.BTreeMap.{IsOrdered};
 ghost use Rattle.grind_polynomials.specs.declared.poly.PolyRefusal.TheVariants.{Overflow, Degree};
 ghost use Rattle.grind_polynomials.specs.Polynomials.{IsPoly};
-ghost use Rattle.grind_polynomials.specs.Running.{key_order, terms_of, coefficient_at, with_coefficient};
+ghost use Rattle.grind_polynomials.specs.Running.{key_order, terms_of, coefficient_of_key, with_coefficient};
 ghost use Rattle.grind_polynomials.specs.Sums.{with_more};
 
 use crate::keys::Key;
@@ -46,7 +46,7 @@ pub(crate) fn add(
     ensures degree { IsErrOf result PolyRefusal.Degree → ⊥ }
 {
     let key = Key { monomial };
-    let before = coefficient_at(sum, &key);
+    let before = coefficient_of_key(sum, &key);
     let Some(coefficient) = sum_of(false, before, number) else {
         return Err(PolyRefusal::Overflow);
     };
@@ -55,8 +55,8 @@ pub(crate) fn add(
 }
 
 // The coefficient at the key, and 0 where there is none.
-fn coefficient_at(sum: &Running, key: &Key) -> i128
-    ensures value { result ≡ coefficient_at key.now sum.now.entries }
+fn coefficient_of_key(sum: &Running, key: &Key) -> i128
+    ensures value { result ≡ coefficient_of_key key.now sum.now.entries }
     ensures ordered { IsOrdered key_order sum.now }
 {
     let _len = sum.len();

@@ -2,11 +2,11 @@
 use Rattle.std.proofs.Common.{◌≡◌, ◌⊎◌, inl, inr, ℕ, zero, suc, ◌+◌, ◌≤◌, ◌<◌, Bool, true, false, List, [], ◌∷◌, ◌++◌, length, Some, slice_get, slice_set, slice_index_or, All, Contains, arith, sym, ap, ◌∙◌, refl, subst}
 use Rattle.std.proofs.lemmas.Bool.{cases_order, false≢true}
 use Rattle.std.proofs.lemmas.List.Elements.{All-weaker, All-contains}
-use Rattle.std.proofs.lemmas.Option.{none-some, same_Some}
-use Rattle.grind_lemmas.proofs.Lists.{contains-cases, get-at, length-push}
+use Rattle.std.proofs.lemmas.Option.{none-some, same_Some, slice_get_within}
+use Rattle.grind_lemmas.proofs.Lists.{contains-cases, length-push}
 use Rattle.grind_term_graph.specs.declared.node.Node.{Node}
 use Rattle.grind_term_graph.specs.Shape.{IsTable}
-use Rattle.grind_reach.specs.Reached.{reads_arguments, Reaches, itself, argument, HaveEarlierArguments}
+use Rattle.grind_reach.specs.Reached.{reads_arguments, IsNeeded, root, argument, HaveEarlierArguments}
 use Rattle.grind_reach.specs.Marks.{IsMarked, HasMarkedArguments}
 
 -- ---- a mark more
@@ -40,18 +40,19 @@ push-only (m ∷ ms) mark (suc n) h = elim (push-only ms mark n h) [ inl old ↦
 pub push-none : (marks : List Bool) → ((n : ℕ) → IsMarked marks n → ⊥) → (n : ℕ) → IsMarked (marks ++ false ∷ []) n → ⊥
 push-none marks none n h = elim (push-only marks false n h) [ inl old ↦ none n old | inr new ↦ false≢true new.1 ]
 
-pub push-one : (marks : List Bool) (count : ℕ) → length marks ≡ count → ((n : ℕ) → IsMarked marks n → ⊥)
-    → (n : ℕ) → IsMarked (marks ++ true ∷ []) n → n ≡ count
-push-one marks count size none n h = elim (push-only marks true n h) [ inl old ↦ absurd (none n old) | inr new ↦ new.0 ∙ size ]
-
-pub push-last : (marks : List Bool) (count : ℕ) → length marks ≡ count → IsMarked (marks ++ true ∷ []) count
-push-last marks count size = subst (IsMarked (marks ++ true ∷ [])) size (get-at marks true)
-
 -- ---- the loop that marks numbers
-contains-first : (x : ℕ) (xs : List ℕ) → Contains (x ∷ xs) x
+pub contained : (xs : List ℕ) (k d : ℕ) → k < length xs → Contains xs (slice_index_or xs k d)
+contained xs k d h = (k, h, index_same xs k d _ h)
+  where
+    index_same : (xs : List ℕ) (k d e : ℕ) → k < length xs → slice_index_or xs k e ≡ slice_index_or xs k d
+    index_same [] k d e h = absurd (omega arith)
+    index_same (x ∷ xs) zero d e h = refl
+    index_same (x ∷ xs) (suc k) d e h = index_same xs k d e (omega arith)
+
+pub contains-first : (x : ℕ) (xs : List ℕ) → Contains (x ∷ xs) x
 contains-first x xs = (0, omega arith, refl)
 
-contains-rest : (x : ℕ) (xs : List ℕ) (n : ℕ) → Contains xs n → Contains (x ∷ xs) n
+pub contains-rest : (x : ℕ) (xs : List ℕ) (n : ℕ) → Contains xs n → Contains (x ∷ xs) n
 contains-rest x xs n h = (suc h.0, omega (arith, h.1), h.2)
 
 -- how far the marking of numbers has come
@@ -104,53 +105,51 @@ so_far-goes_on old marks new numbers rest xs x rest_is new_is size within so_far
 pub so_far-ends : (old marks : List Bool) (numbers rest : List ℕ) → length rest ≡ 0 → SoFar old marks numbers rest
     → All (IsMarked marks) numbers
 so_far-ends old marks numbers rest none so_far = λ k d h.
-    elim (so_far.done (slice_index_or numbers k d) (k, h, index_same numbers k d _ h)) [
+    elim (so_far.done (slice_index_or numbers k d) (contained numbers k d h)) [
       | inl marked ↦ marked
       | inr later ↦ absurd (omega (arith, later.1))
     ]
-  where
-    index_same : (xs : List ℕ) (k d e : ℕ) → k < length xs → slice_index_or xs k e ≡ slice_index_or xs k d
-    index_same [] k d e h = absurd (omega arith)
-    index_same (x ∷ xs) zero d e h = refl
-    index_same (x ∷ xs) (suc k) d e h = index_same xs k d e (omega arith)
 
 -- ---- the marking of what a reading needs
--- the root and what it needs are marked, as far as marked nodes from number `from` on need them, and nothing else is
-pub record IsMarking (nodes : List Node) (root : ℕ) (marks : List Bool) (from : ℕ) : Type 0 where
-  pub size : length marks ≡ suc root
-  pub top : IsMarked marks root
-  pub needed : (n : ℕ) → IsMarked marks n → Reaches nodes root n
+-- the roots and what they need are marked, as far as marked nodes from number `from` on need them, and nothing else is
+pub record IsMarking (nodes : List Node) (roots : List ℕ) (marks : List Bool) (from : ℕ) : Type 0 where
+  pub above : All (λ root. root < length marks) roots
+  pub least : (bound : ℕ) → All (λ root. root < bound) roots → length marks ≤ bound
+  pub top : All (IsMarked marks) roots
+  pub needed : (n : ℕ) → IsMarked marks n → IsNeeded nodes roots n
   pub closed : (n : ℕ) → from ≤ n → HasMarkedArguments nodes marks n
 
-module _ (nodes : List Node) (root n : ℕ) (node : Node) (is : slice_get nodes n ≡ Some node) (lower : All (λ arg. arg < n) node.args) where
+module _ (nodes : List Node) (roots : List ℕ) (n : ℕ) (node : Node) (is : slice_get nodes n ≡ Some node)
+    (lower : All (λ arg. arg < n) node.args) where
   pub marking-more : (old new : List Bool) → IsMarked old n → length new ≡ length old → ((k : ℕ) → IsMarked old k → IsMarked new k)
       → (reads_arguments node.head ≡ true → All (IsMarked new) node.args)
       → ((k : ℕ) → IsMarked new k → IsMarked old k ⊎ ((reads_arguments node.head ≡ true) × Contains node.args k))
-      → IsMarking nodes root old (suc n) → IsMarking nodes root new n
-  marking-more old new marked size kept args only marking =
-      let old_size = marking.size in record {
-        size = omega arith;
-        top = kept root marking.top;
-        needed = λ k h. elim (only k h) [
-          | inl before ↦ marking.needed k before
-          | inr by ↦ argument node (marking.needed n marked) is by.0 by.1
-        ];
-        closed = λ k from other here h reads. elim (cases_order k n) [
-          | inl same ↦
-              let one : node ≡ other = same_Some node other (sym is ∙ ap (slice_get nodes) (sym same) ∙ here) in
-              subst (λ (node : Node). All (IsMarked new) node.args) one (args (ap (λ (node : Node). reads_arguments node.head) one ∙ reads))
-          | inr (inl below) ↦ absurd (omega arith)
-          | inr (inr above) ↦ elim (only k h) [
-            | inl before ↦ All-weaker (IsMarked old) (IsMarked new) kept other.args (marking.closed k (omega arith) other here before reads)
-            | inr by ↦ let small : k < n = All-contains (λ arg. arg < n) node.args k lower by.1 in absurd (omega arith)
-          ]
-        ];
-      }
+      → IsMarking nodes roots old (suc n) → IsMarking nodes roots new n
+  marking-more old new marked size kept args only marking = record {
+    above = subst (λ (end : ℕ). All (λ root. root < end) roots) (sym size) marking.above;
+    least = λ bound within. subst (λ (end : ℕ). end ≤ bound) (sym size) (marking.least bound within);
+    top = All-weaker (IsMarked old) (IsMarked new) kept roots marking.top;
+    needed = λ k h. elim (only k h) [
+      | inl before ↦ marking.needed k before
+      | inr by ↦ argument node (marking.needed n marked) is by.0 by.1
+    ];
+    closed = λ k from other here h reads. elim (cases_order k n) [
+      | inl same ↦
+          let one : node ≡ other = same_Some node other (sym is ∙ ap (slice_get nodes) (sym same) ∙ here) in
+          subst (λ (node : Node). All (IsMarked new) node.args) one (args (ap (λ (node : Node). reads_arguments node.head) one ∙ reads))
+      | inr (inl below) ↦ absurd (omega arith)
+      | inr (inr above) ↦ elim (only k h) [
+        | inl before ↦ All-weaker (IsMarked old) (IsMarked new) kept other.args (marking.closed k (omega arith) other here before reads)
+        | inr by ↦ let small : k < n = All-contains (λ arg. arg < n) node.args k lower by.1 in absurd (omega arith)
+      ]
+    ];
+  }
 
-pub marking-same : (nodes : List Node) (root n : ℕ) (marks : List Bool) → (IsMarked marks n → ⊥) → IsMarking nodes root marks (suc n)
-    → IsMarking nodes root marks n
-marking-same nodes root n marks unmarked marking = record {
-  size = marking.size;
+pub marking-same : (nodes : List Node) (roots : List ℕ) (n : ℕ) (marks : List Bool) → (IsMarked marks n → ⊥)
+    → IsMarking nodes roots marks (suc n) → IsMarking nodes roots marks n
+marking-same nodes roots n marks unmarked marking = record {
+  above = marking.above;
+  least = marking.least;
   top = marking.top;
   needed = marking.needed;
   closed = λ k from other here h reads. elim (cases_order k n) [
@@ -160,22 +159,61 @@ marking-same nodes root n marks unmarked marking = record {
   ];
 }
 
-pub marking-begins : (nodes : List Node) (root : ℕ) (marks : List Bool) → length marks ≡ suc root
-    → ((n : ℕ) → IsMarked marks n → n ≡ root) → IsMarked marks root → IsMarking nodes root marks (suc root)
-marking-begins nodes root marks size only last = record {
-  size = size;
-  top = last;
-  needed = λ n h. subst (Reaches nodes root) (sym (only n h)) itself;
-  closed = λ k from other here h reads. let same = only k h in absurd (omega arith);
+pub marking-begins : (nodes : List Node) (roots : List ℕ) (marks : List Bool) → All (λ root. root < length marks) roots
+    → ((bound : ℕ) → All (λ root. root < bound) roots → length marks ≤ bound) → All (IsMarked marks) roots
+    → ((n : ℕ) → IsMarked marks n → Contains roots n) → IsMarking nodes roots marks (length marks)
+marking-begins nodes roots marks above least top only = record {
+  above = above;
+  least = least;
+  top = top;
+  needed = λ n h. root (only n h);
+  closed = λ k from other here h reads. let inside : k < length marks = slice_get_within marks k true h in absurd (omega arith);
 }
 
--- what is reached is marked, where marked nodes have marked arguments
-pub reached-marked : (nodes : List Node) (root n : ℕ) (marks : List Bool) → IsMarking nodes root marks 0 → Reaches nodes root n
-    → IsMarked marks n
-reached-marked nodes root n marks marking itself = marking.top
-reached-marked nodes root a marks marking (argument {n} node reached is reads among) =
+-- what is needed is marked, where marked nodes have marked arguments
+pub needed-marked : (nodes : List Node) (roots : List ℕ) (n : ℕ) (marks : List Bool) → IsMarking nodes roots marks 0
+    → IsNeeded nodes roots n → IsMarked marks n
+needed-marked nodes roots n marks marking (root among) = All-contains (IsMarked marks) roots n marking.top among
+needed-marked nodes roots a marks marking (argument {n} node needed is reads among) =
     All-contains (IsMarked marks) node.args a
-    (marking.closed n (omega arith) node is (reached-marked nodes root n marks marking reached) reads) among
+    (marking.closed n (omega arith) node is (needed-marked nodes roots n marks marking needed) reads) among
+
+-- ---- the end of some numbers
+-- how far the search for it has come
+pub record IsEnd (numbers rest : List ℕ) (end : ℕ) : Type 0 where
+  pub above : (n : ℕ) → Contains numbers n → (n < end) ⊎ Contains rest n
+  pub least : (bound : ℕ) → All (λ number. number < bound) numbers → end ≤ bound
+  pub among : (n : ℕ) → Contains rest n → Contains numbers n
+
+pub end-begins : (numbers : List ℕ) → IsEnd numbers numbers 0
+end-begins numbers = record {
+  above = λ n h. inr h;
+  least = λ bound h. omega arith;
+  among = λ n h. h;
+}
+
+pub end-goes_on : (numbers rest xs : List ℕ) (x end next : ℕ) → rest ≡ x ∷ xs → end ≤ next → x < next
+    → ((bound : ℕ) → end ≤ bound → x < bound → next ≤ bound) → IsEnd numbers rest end → IsEnd numbers xs next
+end-goes_on numbers rest xs x end next rest_is grows over least so_far = record {
+  above = λ n h. elim (so_far.above n h) [
+    | inl below ↦ inl (omega arith)
+    | inr later ↦ elim (contains-cases x xs n (subst (λ (list : List ℕ). Contains list n) rest_is later)) [
+      | inl same ↦ inl (subst (λ (n : ℕ). n < next) same over)
+      | inr behind ↦ inr behind
+    ]
+  ];
+  least = λ bound h.
+      let front : Contains numbers x = so_far.among x (subst (λ (list : List ℕ). Contains list x) (sym rest_is) (contains-first x xs)) in
+      least bound (so_far.least bound h) (All-contains (λ number. number < bound) numbers x h front);
+  among = λ n h. so_far.among n (subst (λ (list : List ℕ). Contains list n) (sym rest_is) (contains-rest x xs n h));
+}
+
+pub end-ends : (numbers rest : List ℕ) (end : ℕ) → length rest ≡ 0 → IsEnd numbers rest end → All (λ number. number < end) numbers
+end-ends numbers rest end none so_far = λ k d h.
+    elim (so_far.above (slice_index_or numbers k d) (contained numbers k d h)) [
+      | inl below ↦ below
+      | inr later ↦ absurd (omega (arith, later.1))
+    ]
 
 -- ---- the arguments of a table's nodes
 pub earlier-arguments : (nodes before : List Node) (k : ℕ) (node : Node) → IsTable before nodes → slice_get nodes k ≡ Some node

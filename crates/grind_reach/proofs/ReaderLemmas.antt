@@ -7,7 +7,8 @@ use Rattle.std.proofs.lemmas.Option.{same_Some, slice_get_within}
 use Rattle.grind_lemmas.proofs.Lists.{contains-cases}
 use Rattle.grind_term_graph.specs.declared.node.Node.{Node}
 use Rattle.grind_reach.specs.Reached.{reads_arguments}
-use Rattle.grind_reach.specs.Marks.{IsMarked, IsReader, IsLastReader, reader_at}
+use Rattle.grind_reach.specs.Marks.{IsMarked, IsReader, IsLastReader, IsLastUse, reader_at}
+use Rattle.grind_reach.proofs.MarkLemmas.{contained, contains-first, contains-rest}
 
 -- ---- a number more
 set-at : (readers : List ℕ) (x reader a : ℕ) → x < length readers
@@ -25,12 +26,6 @@ push-zero (r ∷ rs) all zero = all 0
 push-zero (r ∷ rs) all (suc n) = push-zero rs (λ n. all (suc n)) n
 
 -- ---- the loop that notes a reader
-contains-first : (x : ℕ) (xs : List ℕ) → Contains (x ∷ xs) x
-contains-first x xs = (0, omega arith, refl)
-
-contains-rest : (x : ℕ) (xs : List ℕ) (n : ℕ) → Contains xs n → Contains (x ∷ xs) n
-contains-rest x xs n h = (suc h.0, omega (arith, h.1), h.2)
-
 -- how far the noting at numbers has come
 pub record IsNoted (old new : List ℕ) (reader : ℕ) (numbers rest : List ℕ) : Type 0 where
   pub size : length new ≡ length old
@@ -91,15 +86,10 @@ module _ (old new : List ℕ) (reader : ℕ) (numbers rest xs : List ℕ) (x : �
 pub noted-ends : (old new : List ℕ) (reader : ℕ) (numbers rest : List ℕ) → length rest ≡ 0 → IsNoted old new reader numbers rest
     → All (λ number. reader_at new number ≡ reader) numbers
 noted-ends old new reader numbers rest none noted = λ k d h.
-    elim (noted.done (slice_index_or numbers k d) (k, h, index_same numbers k d _ h)) [
+    elim (noted.done (slice_index_or numbers k d) (contained numbers k d h)) [
       | inl there ↦ there
       | inr later ↦ absurd (omega (arith, later.1))
     ]
-  where
-    index_same : (xs : List ℕ) (k d e : ℕ) → k < length xs → slice_index_or xs k e ≡ slice_index_or xs k d
-    index_same [] k d e h = absurd (omega arith)
-    index_same (x ∷ xs) zero d e h = refl
-    index_same (x ∷ xs) (suc k) d e h = index_same xs k d e (omega arith)
 
 -- ---- the last readers, as far as nodes before a number read
 pub record HasReaders (nodes : List Node) (marks : List Bool) (readers : List ℕ) (number : ℕ) : Type 0 where
@@ -158,3 +148,14 @@ pub readers-end : (nodes : List Node) (marks : List Bool) (readers : List ℕ) �
     → (a : ℕ) → IsLastReader nodes marks a (reader_at readers a)
 readers-end nodes marks readers all a =
     (λ n reads. all.above n a (slice_get_within marks n true reads.2) reads, all.there a)
+
+-- ---- uses
+-- the roots are used behind all marked nodes, the other nodes by their last readers
+pub uses-are : (nodes : List Node) (marks : List Bool) (roots readers uses : List ℕ)
+    → ((a : ℕ) → IsLastReader nodes marks a (reader_at readers a))
+    → ((a : ℕ) → (reader_at uses a ≡ reader_at readers a) ⊎ (Contains roots a × (reader_at uses a ≡ length marks)))
+    → (a : ℕ) → IsLastUse nodes marks roots a (reader_at uses a)
+uses-are nodes marks roots readers uses last only a = elim (only a) [
+  | inl same ↦ inr (subst (IsLastReader nodes marks a) (sym same) (last a))
+  | inr root ↦ inl root
+]

@@ -21,11 +21,11 @@ reads_arguments head.Mul = true
 reads_arguments (head.Fun function) = false
 reads_arguments (head.Const constant) = false
 
--- the reading of the root needs that of a node: it is the root, or an argument by which a needed node is read
-pub data Reaches (nodes : List Node) (root : ℕ) : ℕ → Type 0 where
-  itself : Reaches nodes root root
-  argument : {n a : ℕ} (node : Node) → Reaches nodes root n → slice_get nodes n ≡ Some node → reads_arguments node.head ≡ true
-      → Contains node.args a → Reaches nodes root a
+-- the reading of these roots needs a node: it is a root, or an argument by which a needed node is read
+pub data IsNeeded (nodes : List Node) (roots : List ℕ) : ℕ → Type 0 where
+  root : {n : ℕ} → Contains roots n → IsNeeded nodes roots n
+  argument : {n a : ℕ} (node : Node) → IsNeeded nodes roots n → slice_get nodes n ≡ Some node → reads_arguments node.head ≡ true
+      → Contains node.args a → IsNeeded nodes roots a
 
 -- the arguments of each node stand before it
 abbrev pub HaveEarlierArguments : List Node → Type 0

@@ -1,9 +1,15 @@
-//! Which nodes the reading of an arithmetic term needs. A sum, a negation and a product are read by their arguments,
-//! every other term by itself.
+//! The reading of arithmetic terms, by operations on what they are read as. A sum, a negation and a product are read by
+//! their arguments, a number by what it is, and every other term as itself. One pass over a table reads each node that is
+//! needed once, and lets its reading go after the last use.
 #![tactic(auto)]
 
+pub mod algebra;
 pub mod marking;
 pub mod readers;
+pub mod reading;
+pub mod walk;
 
-pub use marking::{arguments_stand_before, is_marked, needed_nodes};
-pub use readers::{last_reader, last_readers};
+pub use algebra::Algebra;
+pub use marking::{is_marked, needed_nodes};
+pub use readers::{last_reader, last_readers, last_uses};
+pub use walk::{held, read_all, read_term};

@@ -1,7 +1,7 @@
 //! Which marked node is the last one that is read by another.
 ghost use Rattle.std.specs.Prelude.{◌≡◌, ℕ, ◌<◌, ◌≤◌, ◌⊎◌, All, Contains, length, IfOk, true};
 ghost use Rattle.grind_reach.specs.Reached.{reads_arguments};
-ghost use Rattle.grind_reach.specs.Marks.{IsLastReader, reader_at};
+ghost use Rattle.grind_reach.specs.Marks.{IsLastReader, IsLastUse, reader_at};
 
 use crate::marking::{is_marked, is_read_by_arguments};
 use grind_outside::{List, Memory};
@@ -31,6 +31,30 @@ pub fn last_readers(alloc: Global, table: &TermTable, marks: &[bool]) -> Result<
         }
     }
     Ok(readers)
+}
+
+/// For each node that has a mark, the last use of its reading: a root's comes behind all marked nodes, and that of
+/// another node is its last reader.
+///
+/// # Errors
+///
+/// `Memory` where there is none for the numbers.
+pub fn last_uses(
+    alloc: Global,
+    table: &TermTable,
+    marks: &[bool],
+    roots: &[NodeId],
+) -> Result<List<u32>, Memory>
+    requires within { length marks.now ≤ length table.now.nodes }
+    requires roots { All (λ root. root < length marks.now) roots.now }
+    ensures size { IfOk result (λ uses. length uses ≡ length marks.now) }
+    ensures uses { IfOk result (λ uses. (a : ℕ) → IsLastUse table.now.nodes marks.now roots.now a (reader_at uses a)) }
+    ensures roots { IfOk result (λ uses. All (λ root. reader_at uses root ≡ length marks.now) roots.now) }
+{
+    let _count = table.len();
+    let mut uses = last_readers(alloc, table, marks)?;
+    note_all(&mut uses, marks.len() as u32, roots);
+    Ok(uses)
 }
 
 /// The last reader of the node of a number.

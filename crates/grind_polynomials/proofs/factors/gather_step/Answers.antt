@@ -2,7 +2,7 @@ use Rattle.std.proofs.Common.{◌⊎◌, inl, inr, true, ℤ, pos, ◌/◌, unsi
 use Rattle.std.specs.Int.{w128, IsGcd}
 use Rattle.std.proofs.lemmas.Int.{to_z-of_z}
 use Rattle.grind_polynomials.specs.declared.poly.PolyRefusal.TheVariants.{Overflow}
-use Rattle.grind_polynomials.specs.Polynomials.{fit}
+use Rattle.grind_polynomials.specs.Polynomials.{fit_or_refuse}
 use Rattle.grind_polynomials.specs.Sums.{signed}
 use Rattle.grind_polynomials.specs.Pairs.{divided_by}
 use Rattle.grind_polynomials.specs.Reduction.{target, target_of, is_negative, unit as unit_by, Breaks}
@@ -22,7 +22,7 @@ returns-in_default-unit_of-clause-overflow c =
     let gcd = subst (λ (lead : ℤ). IsGcd (unsigned_abs lead) (unsigned_abs c.in-Some.term.now.coefficient) c.common_divisor-divisor.result)
     c.lead_coefficient-lead.ensures.value (simp (back_lead, back_term) at c.common_divisor-divisor.ensures.divisor) in
     let found_is = ap (target c.args.basis.now) (sym c.terms.ensures.value) ∙ c.in-Some.ensures.value in
-    let over = ap (λ (lead : ℤ). fit (pos (unsigned_abs lead / c.common_divisor-divisor.result))) (sym c.lead_coefficient-lead.ensures.value)
+    let over = ap (λ (lead : ℤ). fit_or_refuse (pos (unsigned_abs lead / c.common_divisor-divisor.result))) (sym c.lead_coefficient-lead.ensures.value)
     ∙ simp back_lead at c.in_default-unit_of.ensures in
     λ e. inl (record { found = target_of c.in-Some.term.now c.in-Some.element.now; found_is = found_is; break_is = record { divisor = c.common_divisor-divisor.result; divisor_is = gcd; refused = inl (rest-unit (target_of c.in-Some.term.now c.in-Some.element.now) c.common_divisor-divisor.result c.args.now.now.state.rest Overflow over) } })
 
@@ -35,9 +35,9 @@ returns-in_default-weight_of-clause-overflow c =
     let gcd = subst (λ (lead : ℤ). IsGcd (unsigned_abs lead) (unsigned_abs c.in-Some.term.now.coefficient) c.common_divisor-divisor.result)
     c.lead_coefficient-lead.ensures.value (simp (back_lead, back_term) at c.common_divisor-divisor.ensures.divisor) in
     let found_is = ap (target c.args.basis.now) (sym c.terms.ensures.value) ∙ c.in-Some.ensures.value in
-    let unit = ap (λ (lead : ℤ). fit (pos (unsigned_abs lead / c.common_divisor-divisor.result))) (sym c.lead_coefficient-lead.ensures.value)
+    let unit = ap (λ (lead : ℤ). fit_or_refuse (pos (unsigned_abs lead / c.common_divisor-divisor.result))) (sym c.lead_coefficient-lead.ensures.value)
     ∙ simp back_lead at c.in-Some-unit_of.ensures in
-    let over = ap (λ (lead : ℤ). fit (signed (is_negative lead) (divided_by c.common_divisor-divisor.result c.in-Some.term.now.coefficient))) (sym c.lead_coefficient-lead.ensures.value)
+    let over = ap (λ (lead : ℤ). fit_or_refuse (signed (is_negative lead) (divided_by c.common_divisor-divisor.result c.in-Some.term.now.coefficient))) (sym c.lead_coefficient-lead.ensures.value)
     ∙ simp (back_lead, back_term) at c.in_default-weight_of.ensures in
     λ e. inl (record { found = target_of c.in-Some.term.now c.in-Some.element.now; found_is = found_is; break_is = record { divisor = c.common_divisor-divisor.result; divisor_is = gcd; refused = inl (rest-weight (target_of c.in-Some.term.now c.in-Some.element.now) c.common_divisor-divisor.result c.args.now.now.state.rest c.in-Some-unit_of.unit Overflow unit over) } })
 
@@ -50,7 +50,7 @@ moved_factors-requires-clause-unit c =
     let gcd = subst (λ (lead : ℤ). IsGcd (unsigned_abs lead) (unsigned_abs c.in-Some.term.now.coefficient) c.common_divisor-divisor.result)
     c.lead_coefficient-lead.ensures.value (simp (back_lead, back_term) at c.common_divisor-divisor.ensures.divisor) in
     let found_is = ap (target c.args.basis.now) (sym c.terms.ensures.value) ∙ c.in-Some.ensures.value in
-    let unit = ap (λ (lead : ℤ). fit (pos (unsigned_abs lead / c.common_divisor-divisor.result))) (sym c.lead_coefficient-lead.ensures.value)
+    let unit = ap (λ (lead : ℤ). fit_or_refuse (pos (unsigned_abs lead / c.common_divisor-divisor.result))) (sym c.lead_coefficient-lead.ensures.value)
     ∙ simp back_lead at c.in-Some-unit_of.ensures in
     let fits_unit : FitsSigned w128 c.in-Some-unit_of.unit = search rules in
     let back_unit = to_z-of_z w128 c.in-Some-unit_of.unit fits_unit in
@@ -66,11 +66,11 @@ returns-in_err-list-clause-overflow c =
     let gcd = subst (λ (lead : ℤ). IsGcd (unsigned_abs lead) (unsigned_abs c.in-Some.term.now.coefficient) c.common_divisor-divisor.result)
     c.lead_coefficient-lead.ensures.value (simp (back_lead, back_term) at c.common_divisor-divisor.ensures.divisor) in
     let found_is = ap (target c.args.basis.now) (sym c.terms.ensures.value) ∙ c.in-Some.ensures.value in
-    let unit = ap (λ (lead : ℤ). fit (pos (unsigned_abs lead / c.common_divisor-divisor.result))) (sym c.lead_coefficient-lead.ensures.value)
+    let unit = ap (λ (lead : ℤ). fit_or_refuse (pos (unsigned_abs lead / c.common_divisor-divisor.result))) (sym c.lead_coefficient-lead.ensures.value)
     ∙ simp back_lead at c.in-Some-unit_of.ensures in
     let fits_unit : FitsSigned w128 c.in-Some-unit_of.unit = search rules in
     let back_unit = to_z-of_z w128 c.in-Some-unit_of.unit fits_unit in
-    let weight = ap (λ (lead : ℤ). fit (signed (is_negative lead) (divided_by c.common_divisor-divisor.result c.in-Some.term.now.coefficient))) (sym c.lead_coefficient-lead.ensures.value)
+    let weight = ap (λ (lead : ℤ). fit_or_refuse (signed (is_negative lead) (divided_by c.common_divisor-divisor.result c.in-Some.term.now.coefficient))) (sym c.lead_coefficient-lead.ensures.value)
     ∙ simp (back_lead, back_term) at c.in-Some-weight_of.ensures in
     let fits_weight : FitsSigned w128 c.in-Some-weight_of.weight = search rules in
     let back_weight = to_z-of_z w128 c.in-Some-weight_of.weight fits_weight in
@@ -90,11 +90,11 @@ returns-clause-ok c =
     let gcd = subst (λ (lead : ℤ). IsGcd (unsigned_abs lead) (unsigned_abs c.in-Some.term.now.coefficient) c.common_divisor-divisor.result)
     c.lead_coefficient-lead.ensures.value (simp (back_lead, back_term) at c.common_divisor-divisor.ensures.divisor) in
     let found_is = ap (target c.args.basis.now) (sym c.terms.ensures.value) ∙ c.in-Some.ensures.value in
-    let unit = ap (λ (lead : ℤ). fit (pos (unsigned_abs lead / c.common_divisor-divisor.result))) (sym c.lead_coefficient-lead.ensures.value)
+    let unit = ap (λ (lead : ℤ). fit_or_refuse (pos (unsigned_abs lead / c.common_divisor-divisor.result))) (sym c.lead_coefficient-lead.ensures.value)
     ∙ simp back_lead at c.in-Some-unit_of.ensures in
     let fits_unit : FitsSigned w128 c.in-Some-unit_of.unit = search rules in
     let back_unit = to_z-of_z w128 c.in-Some-unit_of.unit fits_unit in
-    let weight = ap (λ (lead : ℤ). fit (signed (is_negative lead) (divided_by c.common_divisor-divisor.result c.in-Some.term.now.coefficient))) (sym c.lead_coefficient-lead.ensures.value)
+    let weight = ap (λ (lead : ℤ). fit_or_refuse (signed (is_negative lead) (divided_by c.common_divisor-divisor.result c.in-Some.term.now.coefficient))) (sym c.lead_coefficient-lead.ensures.value)
     ∙ simp (back_lead, back_term) at c.in-Some-weight_of.ensures in
     let fits_weight : FitsSigned w128 c.in-Some-weight_of.weight = search rules in
     let back_weight = to_z-of_z w128 c.in-Some-weight_of.weight fits_weight in

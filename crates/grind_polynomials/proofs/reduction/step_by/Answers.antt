@@ -4,7 +4,7 @@ use Rattle.std.proofs.lemmas.Int.{to_z-of_z}
 use Rattle.grind_monomials.specs.Monomials.{IsMonomial, quotient}
 use Rattle.grind_monomials.proofs.CountLemmas.{rises-quotient}
 use Rattle.grind_polynomials.specs.declared.poly.PolyRefusal.TheVariants.{Overflow}
-use Rattle.grind_polynomials.specs.Polynomials.{fit}
+use Rattle.grind_polynomials.specs.Polynomials.{fit_or_refuse}
 use Rattle.grind_polynomials.specs.Sums.{and_then, signed, with_multiples}
 use Rattle.grind_polynomials.specs.Pairs.{divided_by}
 use Rattle.grind_polynomials.specs.Reduction.{target_of, is_negative, BreaksBy}
@@ -19,7 +19,7 @@ returns-in_default-clause-overflow c =
     let back_lead = to_z-of_z w128 c.lead_coefficient-lead.result fits_lead in
     let gcd = subst (λ (lead : ℤ). IsGcd (unsigned_abs lead) (unsigned_abs c.args.term.now.coefficient) c.common_divisor-divisor.result)
     c.lead_coefficient-lead.ensures.value (simp (back_lead, back_term) at c.common_divisor-divisor.ensures.divisor) in
-    let over = ap (λ (lead : ℤ). fit (pos (unsigned_abs lead / c.common_divisor-divisor.result))) (sym c.lead_coefficient-lead.ensures.value)
+    let over = ap (λ (lead : ℤ). fit_or_refuse (pos (unsigned_abs lead / c.common_divisor-divisor.result))) (sym c.lead_coefficient-lead.ensures.value)
     ∙ simp back_lead at c.in_default.ensures in
     λ e. record { divisor = c.common_divisor-divisor.result; divisor_is = gcd; refused = inl (rest-unit (target_of c.args.term.now c.args.element.now) c.common_divisor-divisor.result c.args.state.now.rest Overflow over) }
 
@@ -31,9 +31,9 @@ returns-in_default-weight_of-clause-overflow c =
     let back_lead = to_z-of_z w128 c.lead_coefficient-lead.result fits_lead in
     let gcd = subst (λ (lead : ℤ). IsGcd (unsigned_abs lead) (unsigned_abs c.args.term.now.coefficient) c.common_divisor-divisor.result)
     c.lead_coefficient-lead.ensures.value (simp (back_lead, back_term) at c.common_divisor-divisor.ensures.divisor) in
-    let unit = ap (λ (lead : ℤ). fit (pos (unsigned_abs lead / c.common_divisor-divisor.result))) (sym c.lead_coefficient-lead.ensures.value)
+    let unit = ap (λ (lead : ℤ). fit_or_refuse (pos (unsigned_abs lead / c.common_divisor-divisor.result))) (sym c.lead_coefficient-lead.ensures.value)
     ∙ simp back_lead at c.in-Some.ensures in
-    let over = ap (λ (lead : ℤ). fit (signed (is_negative lead) (divided_by c.common_divisor-divisor.result c.args.term.now.coefficient))) (sym c.lead_coefficient-lead.ensures.value)
+    let over = ap (λ (lead : ℤ). fit_or_refuse (signed (is_negative lead) (divided_by c.common_divisor-divisor.result c.args.term.now.coefficient))) (sym c.lead_coefficient-lead.ensures.value)
     ∙ simp (back_lead, back_term) at c.in_default-weight_of.ensures in
     λ e. record { divisor = c.common_divisor-divisor.result; divisor_is = gcd; refused = inl (rest-weight (target_of c.args.term.now c.args.element.now) c.common_divisor-divisor.result c.args.state.now.rest c.in-Some.unit Overflow unit over) }
 
@@ -50,9 +50,9 @@ returns-in_err-start-clause-overflow c =
     let back_lead = to_z-of_z w128 c.lead_coefficient-lead.result fits_lead in
     let gcd = subst (λ (lead : ℤ). IsGcd (unsigned_abs lead) (unsigned_abs c.args.term.now.coefficient) c.common_divisor-divisor.result)
     c.lead_coefficient-lead.ensures.value (simp (back_lead, back_term) at c.common_divisor-divisor.ensures.divisor) in
-    let unit = ap (λ (lead : ℤ). fit (pos (unsigned_abs lead / c.common_divisor-divisor.result))) (sym c.lead_coefficient-lead.ensures.value)
+    let unit = ap (λ (lead : ℤ). fit_or_refuse (pos (unsigned_abs lead / c.common_divisor-divisor.result))) (sym c.lead_coefficient-lead.ensures.value)
     ∙ simp back_lead at c.in-Some.ensures in
-    let weight = ap (λ (lead : ℤ). fit (signed (is_negative lead) (divided_by c.common_divisor-divisor.result c.args.term.now.coefficient))) (sym c.lead_coefficient-lead.ensures.value)
+    let weight = ap (λ (lead : ℤ). fit_or_refuse (signed (is_negative lead) (divided_by c.common_divisor-divisor.result c.args.term.now.coefficient))) (sym c.lead_coefficient-lead.ensures.value)
     ∙ simp (back_lead, back_term) at c.in-Some-weight_of.ensures in
     let more = c.in_ok-more.ensures ∙ (λ i. quotient (c.as_slice.ensures.value i) (c.lead_monomial.ensures.value i)) in
     let opened = rest-goes_on (target_of c.args.term.now c.args.element.now) c.common_divisor-divisor.result c.args.state.now.rest c.in-Some.unit c.in-Some-weight_of.weight c.in_ok-more.more
@@ -71,9 +71,9 @@ returns-in_err-terms-clause-overflow c =
     let back_lead = to_z-of_z w128 c.lead_coefficient-lead.result fits_lead in
     let gcd = subst (λ (lead : ℤ). IsGcd (unsigned_abs lead) (unsigned_abs c.args.term.now.coefficient) c.common_divisor-divisor.result)
     c.lead_coefficient-lead.ensures.value (simp (back_lead, back_term) at c.common_divisor-divisor.ensures.divisor) in
-    let unit = ap (λ (lead : ℤ). fit (pos (unsigned_abs lead / c.common_divisor-divisor.result))) (sym c.lead_coefficient-lead.ensures.value)
+    let unit = ap (λ (lead : ℤ). fit_or_refuse (pos (unsigned_abs lead / c.common_divisor-divisor.result))) (sym c.lead_coefficient-lead.ensures.value)
     ∙ simp back_lead at c.in-Some.ensures in
-    let weight = ap (λ (lead : ℤ). fit (signed (is_negative lead) (divided_by c.common_divisor-divisor.result c.args.term.now.coefficient))) (sym c.lead_coefficient-lead.ensures.value)
+    let weight = ap (λ (lead : ℤ). fit_or_refuse (signed (is_negative lead) (divided_by c.common_divisor-divisor.result c.args.term.now.coefficient))) (sym c.lead_coefficient-lead.ensures.value)
     ∙ simp (back_lead, back_term) at c.in-Some-weight_of.ensures in
     let more = c.in_ok-more.ensures ∙ (λ i. quotient (c.as_slice.ensures.value i) (c.lead_monomial.ensures.value i)) in
     let opened = rest-goes_on (target_of c.args.term.now c.args.element.now) c.common_divisor-divisor.result c.args.state.now.rest c.in-Some.unit c.in-Some-weight_of.weight c.in_ok-more.more
@@ -95,7 +95,7 @@ returns-in_default-product_of-clause-overflow c =
     let back_lead = to_z-of_z w128 c.lead_coefficient-lead.result fits_lead in
     let gcd = subst (λ (lead : ℤ). IsGcd (unsigned_abs lead) (unsigned_abs c.args.term.now.coefficient) c.common_divisor-divisor.result)
     c.lead_coefficient-lead.ensures.value (simp (back_lead, back_term) at c.common_divisor-divisor.ensures.divisor) in
-    let unit = ap (λ (lead : ℤ). fit (pos (unsigned_abs lead / c.common_divisor-divisor.result))) (sym c.lead_coefficient-lead.ensures.value)
+    let unit = ap (λ (lead : ℤ). fit_or_refuse (pos (unsigned_abs lead / c.common_divisor-divisor.result))) (sym c.lead_coefficient-lead.ensures.value)
     ∙ simp back_lead at c.in-Some.ensures in
     let fits_unit : FitsSigned w128 c.in-Some.unit = search rules in
     let back_unit = to_z-of_z w128 c.in-Some.unit fits_unit in
@@ -112,9 +112,9 @@ invariant_of-result c =
     let back_lead = to_z-of_z w128 c.lead_coefficient-lead.result fits_lead in
     let gcd = subst (λ (lead : ℤ). IsGcd (unsigned_abs lead) (unsigned_abs c.args.term.now.coefficient) c.common_divisor-divisor.result)
     c.lead_coefficient-lead.ensures.value (simp (back_lead, back_term) at c.common_divisor-divisor.ensures.divisor) in
-    let unit = ap (λ (lead : ℤ). fit (pos (unsigned_abs lead / c.common_divisor-divisor.result))) (sym c.lead_coefficient-lead.ensures.value)
+    let unit = ap (λ (lead : ℤ). fit_or_refuse (pos (unsigned_abs lead / c.common_divisor-divisor.result))) (sym c.lead_coefficient-lead.ensures.value)
     ∙ simp back_lead at c.in-Some.ensures in
-    let weight = ap (λ (lead : ℤ). fit (signed (is_negative lead) (divided_by c.common_divisor-divisor.result c.args.term.now.coefficient))) (sym c.lead_coefficient-lead.ensures.value)
+    let weight = ap (λ (lead : ℤ). fit_or_refuse (signed (is_negative lead) (divided_by c.common_divisor-divisor.result c.args.term.now.coefficient))) (sym c.lead_coefficient-lead.ensures.value)
     ∙ simp (back_lead, back_term) at c.in-Some-weight_of.ensures in
     let more = c.in_ok-more.ensures ∙ (λ i. quotient (c.as_slice.ensures.value i) (c.lead_monomial.ensures.value i)) in
     let opened = rest-goes_on (target_of c.args.term.now c.args.element.now) c.common_divisor-divisor.result c.args.state.now.rest c.in-Some.unit c.in-Some-weight_of.weight c.in_ok-more.more
@@ -137,9 +137,9 @@ returns-clause-ok c =
     let back_lead = to_z-of_z w128 c.lead_coefficient-lead.result fits_lead in
     let gcd = subst (λ (lead : ℤ). IsGcd (unsigned_abs lead) (unsigned_abs c.args.term.now.coefficient) c.common_divisor-divisor.result)
     c.lead_coefficient-lead.ensures.value (simp (back_lead, back_term) at c.common_divisor-divisor.ensures.divisor) in
-    let unit = ap (λ (lead : ℤ). fit (pos (unsigned_abs lead / c.common_divisor-divisor.result))) (sym c.lead_coefficient-lead.ensures.value)
+    let unit = ap (λ (lead : ℤ). fit_or_refuse (pos (unsigned_abs lead / c.common_divisor-divisor.result))) (sym c.lead_coefficient-lead.ensures.value)
     ∙ simp back_lead at c.in-Some.ensures in
-    let weight = ap (λ (lead : ℤ). fit (signed (is_negative lead) (divided_by c.common_divisor-divisor.result c.args.term.now.coefficient))) (sym c.lead_coefficient-lead.ensures.value)
+    let weight = ap (λ (lead : ℤ). fit_or_refuse (signed (is_negative lead) (divided_by c.common_divisor-divisor.result c.args.term.now.coefficient))) (sym c.lead_coefficient-lead.ensures.value)
     ∙ simp (back_lead, back_term) at c.in-Some-weight_of.ensures in
     let more = c.in_ok-more.ensures ∙ (λ i. quotient (c.as_slice.ensures.value i) (c.lead_monomial.ensures.value i)) in
     let opened = rest-goes_on (target_of c.args.term.now c.args.element.now) c.common_divisor-divisor.result c.args.state.now.rest c.in-Some.unit c.in-Some-weight_of.weight c.in_ok-more.more

@@ -1,6 +1,6 @@
 use Rattle.std.specs.Prelude.{◌≡◌, ℕ, length}
 use Rattle.grind_reach.specs.Marks.{IsMarked}
-use Rattle.grind_reach.proofs.marking.only_last.Given as goal
+use Rattle.grind_reach.proofs.marking.unmarked.Given as goal
 
 abbrev pub invariant-loop-number : goal.invariant-loop-number
 invariant-loop-number l = record {

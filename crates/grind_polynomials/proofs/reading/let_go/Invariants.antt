@@ -1,9 +1,0 @@
-use Rattle.std.specs.Prelude.{length}
-use Rattle.grind_polynomials.proofs.MarkLemmas.{IsLetGo}
-use Rattle.grind_polynomials.proofs.reading.let_go.Given as goal
-
-abbrev pub invariant-loop-arg : goal.invariant-loop-arg
-invariant-loop-arg l = IsLetGo l.fn.readers l.fn.n l.fn.polys l.polys l.fn.args l.rest
-
-abbrev pub decreases-loop-arg : goal.decreases-loop-arg
-decreases-loop-arg l = length l.rest
