@@ -1,3 +1,5 @@
 pub mod ListLemmas
 pub mod ClassLemmas
 pub mod MergeLemmas
+pub mod TrailLemmas
+pub mod UndoneLemmas

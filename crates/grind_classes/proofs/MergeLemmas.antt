@@ -6,15 +6,9 @@ use Rattle.std.proofs.lemmas.Option.{same_Some}
 use Rattle.std.proofs.lemmas.List.{length-set, get_or-set_same, get_or-set_other}
 use Rattle.std.proofs.lemmas.List.Elements.{Contains-append_left, Contains-append_right, Contains-append_cases, Contains-get_or}
 use Rattle.grind_classes.specs.Classes.{members_of, IsIn, IsActive, AreTogether, AreApart, IsPartition, AreMergedAt, IsMerge, joined}
+use Rattle.grind_classes.specs.Trail.{AreJoinable}
 use Rattle.grind_classes.specs.Roots.{root_at, repointed, AreTied}
 use Rattle.grind_classes.proofs.ListLemmas.{members_within, root_within, Contains-nil, AreApart-append, repointed-in, repointed-out}
-
--- what is joined
-pub record AreJoinable (lists : List (List ℕ)) (kept gone : ℕ) : Type 0 where
-  pub classes : IsPartition lists
-  pub kept_in : IsIn lists kept kept
-  pub gone_in : IsIn lists gone gone
-  pub differ : kept ≡ gone → ⊥
 
 -- the members, once the classes are joined
 pub members-joined-kept : (lists : List (List ℕ)) (kept gone : ℕ) → AreJoinable lists kept gone
@@ -265,3 +259,14 @@ IsMerge-right old new a b left right moved ra rb classes has_a has_b order lists
     let first : ra ≡ left = classes.in_one ra left a in_a has_a in
     let second : rb ≡ right = classes.in_one rb right b in_b has_b in
     rw (first, second) (λ more. absurd (omega arith), λ _. (lists, refl, count))
+
+-- the two classes can be joined, in either order
+pub joinable : (lists : List (List ℕ)) (left right a b : ℕ) → IsPartition lists → IsIn lists left left → IsIn lists right right
+    → IsIn lists left a → IsIn lists right b → ¬ AreTogether lists a b → AreJoinable lists left right × AreJoinable lists right left
+joinable lists left right a b classes left_in right_in has_a has_b differ = (
+  record { classes = classes; kept_in = left_in; gone_in = right_in; differ = λ e. apart e },
+  record { classes = classes; kept_in = right_in; gone_in = left_in; differ = λ e. apart (sym e) },
+)
+  where
+    apart : left ≡ right → ⊥
+    apart e = differ (left, has_a, subst (λ (r : ℕ). IsIn lists r b) (sym e) has_b)

@@ -2,6 +2,11 @@
 -- empty where r is no root.
 use Rattle.std.specs.Prelude.{◌≡◌, ℕ, ◌+◌, ◌-◌, ◌<◌, ◌≤◌, List, [], ◌∷◌, ◌++◌, Contains, length, slice_index_or, slice_set, replicate, ◌⊎◌, ◌↔◌}
 
+-- what contracts see of classes: the member lists, by root, and those at each mark in force
+pub record Grouping : Type 0 where
+  pub lists : List (List ℕ)
+  pub marked : List (List (List ℕ))
+
 -- the members of the class with root r, the root first: none past the end
 abbrev pub members_of : List (List ℕ) → ℕ → List ℕ
 members_of lists r = slice_index_or lists r []

@@ -1,11 +1,13 @@
 //! Classes of nodes.
-ghost use Rattle.std.specs.Prelude.{◌≡◌, ℕ, ◌<◌, ◌≤◌, ◌^◌, [], length, IfOk, OnOk, OnErr, IsTrue, ◌↔◌, ◌⊎◌};
+ghost use Rattle.std.specs.Prelude.{◌≡◌, ◌≢◌, ℕ, ◌<◌, ◌≤◌, ◌^◌, ◌∷◌, ◌++◌, [], Some, length, take, slice_get, IfOk, OnOk, OnErr, IsTrue, ◌↔◌, ◌⊎◌};
 ghost use Rattle.grind_classes.specs.Classes.{members_of, IsIn, IsActive, AreTogether, IsPartition, with_class, joined, IsMerge, AreMergedAt};
 
-use crate::lists::{copied, join_lists, make_room, members};
-use crate::roots::{reach, repoint, root_of};
+use crate::change::Change;
+use crate::partition::Partition;
+use crate::trail::{copied, rewind};
 use grind_outside::{List, Memory};
 use grind_term_graph::NodeId;
+use grind_undo_trail::{Mark, Undo};
 use std::alloc::Global;
 use std::marker::Model;
 
@@ -14,36 +16,38 @@ use std::marker::Model;
 pub struct Merged {
     /// The root of the joined class.
     pub root: NodeId,
-    /// The number of members that were put behind the others.
+    /// The number of members that were appended to the others.
     pub moved: u32,
 }
 
-/// Classes of nodes. Contracts see the list of the member lists, by root.
+/// Classes of nodes. Contracts see the member lists, by root, and those at each mark in force.
 #[derive(Drop, Debug)]
 pub struct Classes {
-    lists: List<List<NodeId>>,
-    roots: List<Option<NodeId>>,
+    parts: Partition,
+    trail: List<Change>,
+    marks: List<u32>,
 }
 
 impl Model for Classes {
-    ghost use Rattle.std.specs.Prelude.{ℕ, List};
-    ghost use Rattle.grind_classes.specs.Roots.{AreTied};
+    ghost use Rattle.grind_classes.specs.Classes.{Grouping};
+    ghost use Rattle.grind_classes.specs.Trail.{marked_lists, IsUndoable};
 
-    ghost Value = { List (List ℕ) };
+    ghost Value = { Grouping };
 
-    ghost view = { λ a. a.lists };
+    ghost view = { λ a. record { lists = a.parts; marked = marked_lists a.parts a.trail a.marks } };
 
-    ghost invariant = { λ a. AreTied a.lists a.roots };
+    ghost invariant = { λ a. IsUndoable a.parts a.trail a.marks };
 }
 
 impl Classes {
     /// No classes. It takes no memory.
     pub fn new(alloc: Global) -> Classes
-        ensures { result ≡ [] }
+        ensures { result ≡ record { lists = []; marked = [] } }
     {
         Classes {
-            lists: List::new(alloc),
-            roots: List::new(alloc),
+            parts: Partition::new(alloc),
+            trail: List::new(alloc),
+            marks: List::new(alloc),
         }
     }
 
@@ -53,65 +57,69 @@ impl Classes {
     ///
     /// `Memory` leaves the classes as they were.
     pub fn activate(&mut self, alloc: Global, n: NodeId) -> Result<(), Memory>
-        requires { ¬ IsActive self.old n }
-        ensures ok { OnOk result (self.new ≡ with_class self.old n) }
-        ensures active { OnOk result ((x : ℕ) → IsActive self.new x ↔ (IsActive self.old x ⊎ (x ≡ n))) }
-        ensures together { OnOk result ((x y : ℕ) → AreTogether self.new x y ↔ (AreTogether self.old x y ⊎ ((x ≡ n) × (y ≡ n)))) }
-        ensures partition { IsPartition self.new }
+        requires { ¬ IsActive self.old.lists n }
+        ensures ok { OnOk result (self.new.lists ≡ with_class self.old.lists n) }
+        ensures active { OnOk result ((x : ℕ) → IsActive self.new.lists x ↔ (IsActive self.old.lists x ⊎ (x ≡ n))) }
+        ensures together { OnOk result ((x y : ℕ) → AreTogether self.new.lists x y
+            ↔ (AreTogether self.old.lists x y ⊎ ((x ≡ n) × (y ≡ n)))) }
+        ensures partition { IsPartition self.new.lists }
+        ensures marked { self.new.marked ≡ self.old.marked }
         ensures err { OnErr result (self.new ≡ self.old) }
     {
-        let _lists = &self.lists;
-        let mut own = List::new(alloc);
-        own.push(n)?;
-        reach(&mut self.roots, n)?;
-        make_room(alloc, &mut self.lists, n)?;
-        self.lists.set(n.number() as usize, own);
-        self.roots.set(n.number() as usize, Some(n));
-        Ok(())
+        let len = self.parts.len();
+        self.trail.push(Change::Activated {
+            node: n,
+            len,
+            blank: List::new(alloc),
+        })?;
+        match self.parts.activate(alloc, n) {
+            Ok(()) => Ok(()),
+            Err(_) => {
+                let _change = self.trail.pop();
+                Err(Memory)
+            }
+        }
     }
 
     /// Whether a node is in a class.
     pub fn is_active(&self, n: NodeId) -> bool
-        ensures value { IsTrue result ↔ IsActive self.now n }
-        ensures partition { IsPartition self.now }
+        ensures value { IsTrue result ↔ IsActive self.now.lists n }
+        ensures partition { IsPartition self.now.lists }
     {
-        root_of(self.roots.as_slice(), n).is_some()
+        self.parts.is_active(n)
     }
 
     /// The root of the class of a node: its first member.
     pub fn root(&self, n: NodeId) -> NodeId
-        requires { IsActive self.now n }
-        ensures within { IsIn self.now result n }
-        ensures own { IsIn self.now result result }
-        ensures together { (m : ℕ) → AreTogether self.now n m ↔ IsIn self.now result m }
-        ensures partition { IsPartition self.now }
+        requires { IsActive self.now.lists n }
+        ensures within { IsIn self.now.lists result n }
+        ensures own { IsIn self.now.lists result result }
+        ensures together { (m : ℕ) → AreTogether self.now.lists n m ↔ IsIn self.now.lists result m }
+        ensures partition { IsPartition self.now.lists }
     {
-        match root_of(self.roots.as_slice(), n) {
-            Some(root) => root,
-            None => n,
-        }
+        self.parts.root(n)
     }
 
     /// Whether two nodes are in one class.
     pub fn same(&self, a: NodeId, b: NodeId) -> bool
-        requires first { IsActive self.now a }
-        requires second { IsActive self.now b }
-        ensures { IsTrue result ↔ AreTogether self.now a b }
+        requires first { IsActive self.now.lists a }
+        requires second { IsActive self.now.lists b }
+        ensures { IsTrue result ↔ AreTogether self.now.lists a b }
     {
         self.root(a) == self.root(b)
     }
 
     /// The members of the class of a root, the root first.
     pub fn members(&self, root: NodeId) -> &[NodeId]
-        requires { IsIn self.now root root }
-        ensures value { result.now ≡ members_of self.now root }
+        requires { IsIn self.now.lists root root }
+        ensures value { result.now ≡ members_of self.now.lists root }
         ensures bound { length result.now < 2 ^ 32 }
     {
-        members(self.lists.as_slice(), root)
+        self.parts.members(root)
     }
 
-    /// Joins two classes: the smaller is put behind the larger, and where they are of one size, that of
-    /// `b` behind that of `a`. `why` is the number of the fact that says so.
+    /// Joins two classes: the smaller is appended to the larger, and where they are of one size, that of
+    /// `b` to that of `a`. `why` is the number of the fact that says so.
     ///
     /// # Errors
     ///
@@ -123,53 +131,89 @@ impl Classes {
         b: NodeId,
         _why: u32,
     ) -> Result<Merged, Memory>
-        requires first { IsActive self.old a }
-        requires second { IsActive self.old b }
-        requires apart { ¬ AreTogether self.old a b }
-        ensures lists { IfOk result (λ merged. (ra rb : ℕ) → IsIn self.old ra a → IsIn self.old rb b
-            → IsMerge self.old ra rb self.new merged.root merged.moved) }
-        ensures together { OnOk result ((x y : ℕ) → AreMergedAt self.old a b self.new x y) }
-        ensures active { OnOk result ((x : ℕ) → IsActive self.new x ↔ IsActive self.old x) }
-        ensures partition { IsPartition self.new }
+        requires first { IsActive self.old.lists a }
+        requires second { IsActive self.old.lists b }
+        requires apart { ¬ AreTogether self.old.lists a b }
+        ensures lists { IfOk result (λ merged. (ra rb : ℕ) → IsIn self.old.lists ra a → IsIn self.old.lists rb b
+            → IsMerge self.old.lists ra rb self.new.lists merged.root merged.moved) }
+        ensures together { OnOk result ((x y : ℕ) → AreMergedAt self.old.lists a b self.new.lists x y) }
+        ensures active { OnOk result ((x : ℕ) → IsActive self.new.lists x ↔ IsActive self.old.lists x) }
+        ensures partition { IsPartition self.new.lists }
+        ensures marked { self.new.marked ≡ self.old.marked }
         ensures err { OnErr result (self.new ≡ self.old) }
     {
         let left = self.root(a);
         let right = self.root(b);
         if self.members(right).len() <= self.members(left).len() {
-            let moved = self.put_behind(alloc, left, right)?;
+            let moved = self.append(alloc, left, right)?;
             return Ok(Merged { root: left, moved });
         }
-        let moved = self.put_behind(alloc, right, left)?;
+        let moved = self.append(alloc, right, left)?;
         Ok(Merged { root: right, moved })
     }
 
-    // Puts the members of the class of one root behind those of another, and answers their number.
-    fn put_behind(&mut self, alloc: Global, kept: NodeId, gone: NodeId) -> Result<u32, Memory>
-        requires kept { IsIn self.old kept kept }
-        requires gone { IsIn self.old gone gone }
-        requires apart { ¬ (kept ≡ gone) }
-        ensures lists { OnOk result (self.new ≡ joined self.old kept gone) }
-        ensures count { IfOk result (λ moved. moved ≡ length (members_of self.old gone)) }
-        ensures together { OnOk result ((a b x y : ℕ) → IsIn self.old kept a → IsIn self.old gone b
-            → AreMergedAt self.old a b self.new x y) }
-        ensures swapped { OnOk result ((a b x y : ℕ) → IsIn self.old kept a → IsIn self.old gone b
-            → AreMergedAt self.old b a self.new x y) }
-        ensures active { OnOk result ((x : ℕ) → IsActive self.new x ↔ IsActive self.old x) }
-        ensures partition { IsPartition self.new }
+    // Appends the members of the class of one root to those of another, and answers their number.
+    fn append(&mut self, alloc: Global, kept: NodeId, gone: NodeId) -> Result<u32, Memory>
+        requires kept { IsIn self.old.lists kept kept }
+        requires gone { IsIn self.old.lists gone gone }
+        requires apart { kept ≢ gone }
+        ensures lists { OnOk result (self.new.lists ≡ joined self.old.lists kept gone) }
+        ensures count { IfOk result (λ moved. moved ≡ length (members_of self.old.lists gone)) }
+        ensures marked { self.new.marked ≡ self.old.marked }
         ensures err { OnErr result (self.new ≡ self.old) }
     {
-        let moved = join_lists(alloc, &mut self.lists, kept, gone)?;
-        repoint(&mut self.roots, moved.as_slice(), kept);
-        Ok(moved.len() as u32)
+        let last = self.trail.len();
+        self.trail.push(Change::Joined {
+            kept,
+            gone,
+            moved: List::new(alloc),
+        })?;
+        match self.parts.append(alloc, kept, gone) {
+            Ok(moved) => {
+                let count = moved.len() as u32;
+                self.trail.set(last, Change::Joined { kept, gone, moved });
+                Ok(count)
+            }
+            Err(_) => {
+                self.trail.truncate(last);
+                Err(Memory)
+            }
+        }
     }
 
-    /// The same classes once more.
+    /// The same classes once more, with the same marks.
     pub fn copy(&self, alloc: Global) -> Result<Classes, Memory>
         ensures { IfOk result (λ classes. classes ≡ self.now) }
     {
-        let lists = copied(alloc, self.lists.as_slice())?;
-        let mut roots = List::new(alloc);
-        roots.extend(self.roots.as_slice())?;
-        Ok(Classes { lists, roots })
+        let parts = self.parts.copy(alloc)?;
+        let trail = copied(alloc, self.trail.as_slice())?;
+        let mut marks = List::new(alloc);
+        marks.extend(self.marks.as_slice())?;
+        Ok(Classes {
+            parts,
+            trail,
+            marks,
+        })
+    }
+}
+
+impl Undo for Classes {
+    type View = List<List<NodeId>>;
+
+    ghost present = { λ it. it.lists };
+
+    ghost marked = { λ it. it.marked };
+
+    fn mark(&mut self, alloc: Global) -> Result<Mark, Memory> {
+        let place = self.marks.len() as u32;
+        self.marks.push(self.trail.len() as u32)?;
+        Ok(Mark::new(place))
+    }
+
+    fn undo(&mut self, mark: Mark) {
+        let place = mark.number() as usize;
+        let len = self.marks.as_slice()[place] as usize;
+        rewind(&mut self.parts, &mut self.trail, len);
+        self.marks.truncate(place);
     }
 }

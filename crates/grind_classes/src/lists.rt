@@ -1,6 +1,7 @@
 //! Lists of member lists.
-ghost use Rattle.std.specs.Prelude.{◌≡◌, ◌≢◌, ◌<◌, ◌^◌, [], ◌∷◌, ◌++◌, length, take, OnOk, OnErr, IfOk};
+ghost use Rattle.std.specs.Prelude.{◌≡◌, ◌≢◌, ◌<◌, ◌≤◌, ◌^◌, [], ◌∷◌, ◌++◌, length, take, slice_set, OnOk, OnErr, IfOk};
 ghost use Rattle.grind_classes.specs.Classes.{long_enough, joined, members_of};
+ghost use Rattle.grind_classes.specs.Trail.{parted};
 
 use grind_outside::{List, Memory};
 use grind_term_graph::NodeId;
@@ -36,8 +37,8 @@ fn grow(alloc: Global, lists: &mut List<List<NodeId>>, n: NodeId) -> Result<(), 
     Ok(())
 }
 
-// Puts the members under one root behind those under another, and gives them back.
-pub(crate) fn join_lists(
+// Appends the members under one root to those under another, and gives back the list of those that moved.
+pub(crate) fn append_list(
     alloc: Global,
     lists: &mut List<List<NodeId>>,
     kept: NodeId,
@@ -50,14 +51,59 @@ pub(crate) fn join_lists(
     ensures moved { IfOk result (λ moved. moved ≡ members_of lists.old gone) }
     ensures err { OnErr result (lists.new ≡ lists.old) }
 {
-    let both = joined_list(
-        alloc,
-        members(lists.as_slice(), kept),
-        members(lists.as_slice(), gone),
-    )?;
-    lists.set(kept.number() as usize, both);
     let moved = lists.replace(gone.number() as usize, List::new(alloc));
-    Ok(moved)
+    match append_to(alloc, lists, kept, moved.as_slice()) {
+        Ok(()) => Ok(moved),
+        Err(_) => {
+            lists.set(gone.number() as usize, moved);
+            Err(Memory)
+        }
+    }
+}
+
+// Appends nodes to the members under a root, in place.
+fn append_to(
+    alloc: Global,
+    lists: &mut List<List<NodeId>>,
+    root: NodeId,
+    nodes: &[NodeId],
+) -> Result<(), Memory>
+    requires { root < length lists.old }
+    ensures ok { OnOk result (lists.new ≡ slice_set lists.old root (members_of lists.old root ++ nodes.now)) }
+    ensures err { OnErr result (lists.new ≡ lists.old) }
+{
+    let mut members = lists.replace(root.number() as usize, List::new(alloc));
+    match members.extend(nodes) {
+        Ok(()) => {
+            lists.set(root.number() as usize, members);
+            Ok(())
+        }
+        Err(_) => {
+            lists.set(root.number() as usize, members);
+            Err(Memory)
+        }
+    }
+}
+
+// Undoes that the members under one root were appended to those under another.
+pub(crate) fn put_apart(
+    lists: &mut List<List<NodeId>>,
+    kept: NodeId,
+    gone: NodeId,
+    moved: List<NodeId>,
+)
+    requires kept { kept < length lists.old }
+    requires gone { gone < length lists.old }
+    requires differ { gone ≢ kept }
+    requires longer { length moved ≤ length (members_of lists.old kept) }
+    ensures { lists.new ≡ parted lists.old kept gone moved }
+{
+    let count = moved.len();
+    let blank = lists.replace(gone.number() as usize, moved);
+    let mut both = lists.replace(kept.number() as usize, blank);
+    let len = both.len() - count;
+    both.truncate(len);
+    lists.set(kept.number() as usize, both);
 }
 
 // The members under a root.
@@ -67,16 +113,6 @@ pub(crate) fn members(lists: &[List<NodeId>], root: NodeId) -> &[NodeId]
     ensures bound { length result.now < 2 ^ 32 }
 {
     lists[root.number() as usize].as_slice()
-}
-
-// A list of the first nodes and then the second.
-fn joined_list(alloc: Global, first: &[NodeId], second: &[NodeId]) -> Result<List<NodeId>, Memory>
-    ensures { IfOk result (λ list. list ≡ first.now ++ second.now) }
-{
-    let mut list = List::new(alloc);
-    list.extend(first)?;
-    list.extend(second)?;
-    Ok(list)
 }
 
 // A copy of lists.

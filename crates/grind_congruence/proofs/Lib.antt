@@ -3,3 +3,4 @@ pub mod FitLemmas
 pub mod ExactLemmas
 pub mod SearchLemmas
 pub mod ReachLemmas
+pub mod MarkLemmas

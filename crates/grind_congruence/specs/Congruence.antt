@@ -4,11 +4,14 @@ use Rattle.std.specs.List.{AllZip}
 use Rattle.grind_term_graph.specs.declared.node.Node.{Node}
 use Rattle.grind_classes.specs.Classes.{IsActive, AreTogether}
 use Rattle.grind_congruence.specs.declared.edge.Edge.{Edge}
+use Rattle.grind_congruence.specs.declared.view.ClosureView.{ClosureView}
 
--- a closure: the member lists of its classes, by root, and the edges that it keeps, in the order in which they came
+-- a closure: the member lists of its classes, by root, the edges that it keeps, in the order in which they came, and what
+-- it was at each mark in force
 pub record Congruence : Type 0 where
   pub lists : List (List ℕ)
   pub edges : List Edge
+  pub marked : List ClosureView
 
 -- two nodes of one head and one sort, with arguments that are together one by one
 pub record AreCongruent (lists : List (List ℕ)) (nodes : List Node) (a b : ℕ) : Type 0 where

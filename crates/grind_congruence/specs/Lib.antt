@@ -6,3 +6,4 @@ pub mod Asserted
 pub mod Searching
 pub mod Reaching
 pub mod Ways
+pub mod Marks

@@ -10,9 +10,11 @@ ghost use Rattle.grind_congruence.specs.Asserted.{IsJoined};
 use crate::edge::{Edge, Found};
 use crate::path::first_way;
 use crate::search::find_pair;
+use crate::view::{ClosureView, Noted};
 use grind_classes::Classes;
 use grind_outside::{List, Memory};
 use grind_term_graph::{NodeId, TermTable};
+use grind_undo_trail::{Mark, Undo};
 use std::alloc::Global;
 use std::marker::Model;
 
@@ -22,28 +24,34 @@ use std::marker::Model;
 pub struct Closure {
     classes: Classes,
     edges: List<Edge>,
+    marks: List<Noted>,
 }
 
 impl Model for Closure {
     ghost use Rattle.grind_congruence.specs.Congruence.{Congruence};
-    ghost use Rattle.grind_congruence.specs.Edges.{AreClassesOf};
+    ghost use Rattle.grind_congruence.specs.Marks.{views, IsKept};
 
     ghost Value = { Congruence };
 
-    ghost view = { λ a. record { lists = a.classes; edges = a.edges } };
+    ghost view = { λ a. record {
+        lists = a.classes.lists;
+        edges = a.edges;
+        marked = views a.classes.marked a.edges a.marks;
+    } };
 
-    ghost invariant = { λ a. AreClassesOf a.classes a.edges };
+    ghost invariant = { λ a. IsKept a.classes a.edges a.marks };
 }
 
 impl Closure {
     /// No active nodes and no equations. It fits every table and takes no memory.
     pub fn new(alloc: Global) -> Closure
-        ensures value { result ≡ record { lists = []; edges = [] } }
+        ensures value { result ≡ record { lists = []; edges = []; marked = [] } }
         ensures fits { FitsEvery result.lists }
     {
         Closure {
             classes: Classes::new(alloc),
             edges: List::new(alloc),
+            marks: List::new(alloc),
         }
     }
 
@@ -62,6 +70,7 @@ impl Closure {
         ensures together { OnOk result ((x y : ℕ) → AreTogether self.new.lists x y
             ↔ (AreTogether self.old.lists x y ⊎ ((x ≡ n) × (y ≡ n)))) }
         ensures edges { self.new.edges ≡ self.old.edges }
+        ensures marked { self.new.marked ≡ self.old.marked }
         ensures fits { Fits self.new.lists terms.now.nodes }
         ensures err { OnErr result (self.new ≡ self.old) }
     {
@@ -89,6 +98,7 @@ impl Closure {
         requires second { IsActive self.old.lists b }
         ensures together { OnOk result (AreTogether self.old.lists a b → self.new ≡ self.old) }
         ensures joined { OnOk result (¬ AreTogether self.old.lists a b → IsJoined self.old self.new a b why) }
+        ensures marked { self.new.marked ≡ self.old.marked }
         ensures fits { Fits self.new.lists terms.now.nodes }
         ensures err { OnErr result (self.new ≡ self.old) }
     {
@@ -143,7 +153,7 @@ impl Closure {
 
     /// The classes. They are those that the equations make.
     pub fn classes(&self) -> &Classes
-        ensures value { result.now ≡ self.now.lists }
+        ensures value { result.now.lists ≡ self.now.lists }
         ensures tied { AreClassesOf self.now.lists self.now.edges }
     {
         &self.classes
@@ -174,14 +184,50 @@ impl Closure {
         first_way(alloc, self.edges.as_slice(), a, b)
     }
 
-    /// The same closure once more.
+    /// The same closure once more, with the same marks.
     pub fn copy(&self, alloc: Global) -> Result<Closure, Memory>
         ensures { IfOk result (λ closure. closure ≡ self.now) }
     {
         let classes = self.classes.copy(alloc)?;
         let mut edges = List::new(alloc);
         edges.extend(self.edges.as_slice())?;
-        Ok(Closure { classes, edges })
+        let mut marks = List::new(alloc);
+        marks.extend(self.marks.as_slice())?;
+        Ok(Closure {
+            classes,
+            edges,
+            marks,
+        })
+    }
+}
+
+impl Undo for Closure {
+    type View = ClosureView;
+
+    ghost present = { λ it. record { lists = it.lists; edges = it.edges } };
+
+    ghost marked = { λ it. it.marked };
+
+    fn mark(&mut self, alloc: Global) -> Result<Mark, Memory> {
+        let last = self.marks.len();
+        self.marks.push(Noted {
+            edges: self.edges.len() as u32,
+        })?;
+        match self.classes.mark(alloc) {
+            Ok(mark) => Ok(mark),
+            Err(_) => {
+                self.marks.truncate(last);
+                Err(Memory)
+            }
+        }
+    }
+
+    fn undo(&mut self, mark: Mark) {
+        let place = mark.number() as usize;
+        let noted = self.marks.as_slice()[place];
+        self.classes.undo(mark);
+        self.edges.truncate(noted.edges as usize);
+        self.marks.truncate(place);
     }
 }
 

@@ -8,6 +8,8 @@ pub mod edge;
 mod path;
 mod reached;
 mod search;
+pub mod view;
 
 pub use closure::{Closure, at_rest_is_exact, fits_longer};
 pub use edge::{Edge, Found};
+pub use view::ClosureView;

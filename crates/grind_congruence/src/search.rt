@@ -11,10 +11,10 @@ use grind_term_graph::{NodeId, TermTable};
 
 // Two active nodes that are congruent and not together, if there are any.
 pub(crate) fn find_pair(classes: &Classes, terms: &TermTable) -> Option<Found>
-    requires partition { IsPartition classes.now }
-    requires fits { Fits classes.now terms.now.nodes }
-    ensures found { IfSome result (λ found. IsPair classes.now terms.now.nodes found.left found.right) }
-    ensures none { IsNone result ↔ IsAtRest classes.now terms.now.nodes }
+    requires partition { IsPartition classes.now.lists }
+    requires fits { Fits classes.now.lists terms.now.nodes }
+    ensures found { IfSome result (λ found. IsPair classes.now.lists terms.now.nodes found.left found.right) }
+    ensures none { IsNone result ↔ IsAtRest classes.now.lists terms.now.nodes }
 {
     for number in 0..terms.len() {
         let left = NodeId::new(number);
@@ -27,10 +27,10 @@ pub(crate) fn find_pair(classes: &Classes, terms: &TermTable) -> Option<Found>
 
 // An active node that is congruent to a node and not together with it, if there is one.
 fn partner(classes: &Classes, terms: &TermTable, a: NodeId) -> Option<NodeId>
-    requires fits { Fits classes.now terms.now.nodes }
+    requires fits { Fits classes.now.lists terms.now.nodes }
     requires within { a < length terms.now.nodes }
-    ensures found { IfSome result (λ b. IsPair classes.now terms.now.nodes a b) }
-    ensures none { IsNone result → HasNoPartner classes.now terms.now.nodes a }
+    ensures found { IfSome result (λ b. IsPair classes.now.lists terms.now.nodes a b) }
+    ensures none { IsNone result → HasNoPartner classes.now.lists terms.now.nodes a }
 {
     for number in 0..terms.len() {
         let b = NodeId::new(number);
@@ -43,8 +43,8 @@ fn partner(classes: &Classes, terms: &TermTable, a: NodeId) -> Option<NodeId>
 
 // Whether two nodes are active, congruent and not together.
 fn is_pair(classes: &Classes, terms: &TermTable, a: NodeId, b: NodeId) -> bool
-    requires fits { Fits classes.now terms.now.nodes }
-    ensures { IsTrue result ↔ IsPair classes.now terms.now.nodes a b }
+    requires fits { Fits classes.now.lists terms.now.nodes }
+    ensures { IsTrue result ↔ IsPair classes.now.lists terms.now.nodes a b }
 {
     if !classes.is_active(a) || !classes.is_active(b) {
         return false;
@@ -57,10 +57,10 @@ fn is_pair(classes: &Classes, terms: &TermTable, a: NodeId, b: NodeId) -> bool
 
 // Whether two active nodes are congruent.
 fn are_congruent(classes: &Classes, terms: &TermTable, a: NodeId, b: NodeId) -> bool
-    requires fits { Fits classes.now terms.now.nodes }
-    requires first { IsActive classes.now a }
-    requires second { IsActive classes.now b }
-    ensures { IsTrue result ↔ AreCongruent classes.now terms.now.nodes a b }
+    requires fits { Fits classes.now.lists terms.now.nodes }
+    requires first { IsActive classes.now.lists a }
+    requires second { IsActive classes.now.lists b }
+    ensures { IsTrue result ↔ AreCongruent classes.now.lists terms.now.nodes a b }
 {
     let left = terms.node(a);
     let right = terms.node(b);
@@ -75,9 +75,9 @@ fn are_congruent(classes: &Classes, terms: &TermTable, a: NodeId, b: NodeId) -> 
 
 // Whether nodes are together one by one.
 fn are_all_same(classes: &Classes, left: &[NodeId], right: &[NodeId]) -> bool
-    requires left { All (IsActive classes.now) left.now }
-    requires right { All (IsActive classes.now) right.now }
-    ensures { IsTrue result ↔ AllZip (AreTogether classes.now) left.now right.now }
+    requires left { All (IsActive classes.now.lists) left.now }
+    requires right { All (IsActive classes.now.lists) right.now }
+    ensures { IsTrue result ↔ AllZip (AreTogether classes.now.lists) left.now right.now }
 {
     let mut rest = left;
     let mut others = right;

@@ -5,9 +5,9 @@ use Rattle.grind_congruence.proofs.search.are_all_same.Given as goal
 
 abbrev pub invariant-loop-x : goal.invariant-loop-x
 invariant-loop-x l = record {
-  whole : AllZip (AreTogether l.classes) l.rest l.others ↔ AllZip (AreTogether l.fn.classes) l.fn.left l.fn.right;
-  left : All (IsActive l.classes) l.rest;
-  right : All (IsActive l.classes) l.others;
+  whole : AllZip (AreTogether l.classes.lists) l.rest l.others ↔ AllZip (AreTogether l.fn.classes.lists) l.fn.left l.fn.right;
+  left : All (IsActive l.classes.lists) l.rest;
+  right : All (IsActive l.classes.lists) l.others;
 }
 
 abbrev pub decreases-loop-x : goal.decreases-loop-x

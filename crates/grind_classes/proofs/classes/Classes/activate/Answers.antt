@@ -1,39 +1,37 @@
-use Rattle.std.specs.Prelude.{◌≡◌, ◌∷◌, [], Some, set}
-use Rattle.grind_classes.specs.Classes.{IsActive, with_class}
-use Rattle.grind_classes.proofs.ClassLemmas.{AreTied-longer, IsPartition-with_class, AreTied-with_class, active-with_class, together-with_class}
+use Rattle.std.specs.Prelude.{◌≡◌, [], ◌∷◌, ◌++◌}
+use Rattle.std.proofs.Common.{ap, ◌∙◌}
+use Rattle.grind_classes.specs.declared.change.Change.TheVariants.{Activated}
+use Rattle.grind_classes.specs.Classes.{Grouping, IsActive}
+use Rattle.grind_classes.specs.Trail.{IsMade}
+use Rattle.grind_classes.proofs.ClassLemmas.{active-with_class, together-with_class}
+use Rattle.grind_classes.proofs.TrailLemmas.{marked-push, IsUndoable-push}
 use Rattle.grind_classes.proofs.classes.Classes.activate.Goals as goal
 
-pub invariant_of-self : goal.invariant_of-self
-invariant_of-self c = AreTied-longer c.self.inside.lists c.self.inside.roots c.reach.new.roots c.self.invariant c.reach.ensures.same
+new : (c : goal.In-Ok) → IsActive c.self.inside.parts c.args.n → ⊥
+new c = let lists_are : c.self.inside.parts ≡ c.args.self.now.lists = ap (λ (it : Grouping). it.lists) c.self.view_is in rw lists_are c.requires
 
-pub invariant_of-self-in_err-make_room : goal.invariant_of-self-in_err-make_room
-invariant_of-self-in_err-make_room c =
-    rw c.in_err-make_room.ensures.err
-    (AreTied-longer c.self.inside.lists c.self.inside.roots c.reach.new.roots c.self.invariant c.reach.ensures.same)
+made : (c : goal.In-Ok) → IsMade c.self.inside.parts (Activated c.args.n c.len-len.result c.new.result) c.activate.new.self
+made c = (c.len-len.ensures.partition, new c, c.len-len.ensures.value, c.new.ensures, c.in-Ok.ensures.ok)
 
-new : (c : goal.After-set-2) → IsActive c.self.inside.lists c.args.n → ⊥
-new c = rw c.self.view_is c.requires
+pub invariant_of-self-in-Ok : goal.invariant_of-self-in-Ok
+invariant_of-self-in-Ok c =
+    rw c.in_ok-push.ensures.ok
+    (IsUndoable-push c.self.inside.parts c.activate.new.self c.self.inside.trail (Activated c.args.n c.len-len.result c.new.result)
+    c.self.inside.marks (made c) c.self.invariant)
 
-lists_are : (c : goal.After-set-2) → c.set.new.self ≡ with_class c.self.inside.lists c.args.n
-lists_are c =
-    let own : c.push.new.self ≡ c.args.n ∷ [] = rw c.new-own.ensures at c.in_ok-push.ensures.ok in
-    rw (c.number.ensures, c.in_ok-make_room.ensures.ok, own) at c.set.ensures
+pub returns-in-Ok-clause-active : goal.returns-in-Ok-clause-active
+returns-in-Ok-clause-active c = λ x.
+    let lists_are : c.self.inside.parts ≡ c.args.self.now.lists = ap (λ (it : Grouping). it.lists) c.self.view_is in
+    rw (← lists_are, c.in-Ok.ensures.ok) (active-with_class c.self.inside.parts c.args.n x c.len-len.ensures.partition (new c))
 
-pub invariant_of-self-2 : goal.invariant_of-self-2
-invariant_of-self-2 c =
-    let roots_are : c.set-2.new.self ≡ set c.reach.new.roots c.args.n (Some c.args.n) = rw c.number-2.ensures at c.set-2.ensures in
-    rw (lists_are c, roots_are)
-    (AreTied-with_class c.self.inside.lists c.self.inside.roots c.reach.new.roots c.args.n c.self.invariant (new c)
-    c.reach.ensures.same c.in_ok-reach.ensures.ok)
+pub returns-in-Ok-clause-together : goal.returns-in-Ok-clause-together
+returns-in-Ok-clause-together c = λ x y.
+    let lists_are : c.self.inside.parts ≡ c.args.self.now.lists = ap (λ (it : Grouping). it.lists) c.self.view_is in
+    rw (← lists_are, c.in-Ok.ensures.ok) (together-with_class c.self.inside.parts c.args.n x y c.len-len.ensures.partition (new c))
 
-pub returns-clause-active : goal.returns-clause-active
-returns-clause-active c = λ x.
-    rw (lists_are c, ← c.self.view_is) (active-with_class c.self.inside.lists c.args.n x c.self.invariant.partition (new c))
-
-pub returns-clause-together : goal.returns-clause-together
-returns-clause-together c = λ x y.
-    rw (lists_are c, ← c.self.view_is) (together-with_class c.self.inside.lists c.args.n x y c.self.invariant.partition (new c))
-
-pub returns-clause-partition : goal.returns-clause-partition
-returns-clause-partition c =
-    rw (lists_are c) (IsPartition-with_class c.self.inside.lists c.args.n c.self.invariant.partition (new c))
+pub returns-in-Ok-clause-marked : goal.returns-in-Ok-clause-marked
+returns-in-Ok-clause-marked c =
+    rw c.in_ok-push.ensures.ok
+    (marked-push c.self.inside.parts c.activate.new.self c.self.inside.trail (Activated c.args.n c.len-len.result c.new.result)
+    c.self.inside.marks (made c) c.self.invariant)
+    ∙ ap (λ (it : Grouping). it.marked) c.self.view_is

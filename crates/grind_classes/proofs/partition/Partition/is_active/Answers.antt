@@ -1,7 +1,7 @@
 use Rattle.std.specs.Prelude.{◌≡◌}
 use Rattle.grind_classes.specs.Roots.{root_at}
 use Rattle.grind_classes.proofs.ClassLemmas.{active_by_root}
-use Rattle.grind_classes.proofs.classes.Classes.is_active.Goals as goal
+use Rattle.grind_classes.proofs.partition.Partition.is_active.Goals as goal
 
 pub returns-clause-value : goal.returns-clause-value
 returns-clause-value c =
