@@ -5,3 +5,5 @@
 mod meeting_tests;
 #[cfg(test)]
 mod program_tests;
+#[cfg(test)]
+mod stream_tests;

@@ -1,14 +1,14 @@
 //! Files of the machine.
-ghost use Rattle.std.specs.Prelude.{◌≡◌, ◌≤◌, ◌<◌, ◌+◌, ◌^◌, ◌++◌, ℕ, List, None, IfOk, IfSome, length};
+ghost use Rattle.std.specs.Prelude.{◌≡◌, ◌≤◌, ◌<◌, ◌+◌, ◌^◌, ◌++◌, ℕ, List, None, Err, IfOk, OnErr, IfSome, length};
 ghost use Rattle.std.specs.Io.KnownBytes.{Consumes, IsAtEnd};
-ghost use Rattle.grind_outside.specs.Outside.{IfTooLong};
+ghost use Rattle.grind_outside.specs.Outside.{next_count, IfTooLong, OnReadFailed, UnlessReadFailed};
 
 use crate::list::List;
 use crate::refusal::ReadRefusal;
 use crate::shelf::Shelf;
 use std::alloc::Global;
 use std::fs;
-use std::io::Read;
+use std::io::{self, Read};
 use std::rt::Files;
 
 /// How many bytes one read asks for.
@@ -18,14 +18,14 @@ const PIECE: usize = 8192;
 /// for each error of the machine: a file that is missing, that may not be read, or is a folder.
 #[derive(Drop)]
 pub struct FileShelf<'a, R: Files> {
-    rt: &'a R,
-    faults: u64,
+    pub rt: &'a R,
+    pub faults: u64,
 }
 
 impl<'a, R: Files> FileShelf<'a, R> {
     /// The files that this runtime reaches.
     pub fn new(rt: &'a R) -> FileShelf<'a, R>
-        ensures { ⟦<FileShelf<'a, R> as Shelf>⟧.faults result ≡ 0 }
+        ensures { result.faults ≡ 0 }
     {
         FileShelf { rt, faults: 0 }
     }
@@ -36,15 +36,39 @@ impl<'a, R: Files> Shelf for FileShelf<'a, R> {
 
     ghost faults = { λ shelf. shelf.faults };
 
-    fn read(&mut self, alloc: Global, name: &str, limit: u64) -> Result<List<u8>, ReadRefusal> {
-        let answer = match fs::open(self.rt, name) {
-            Ok(mut file) => read_whole(&mut file, alloc, limit),
-            Err(_) => Err(ReadRefusal::Failed),
-        };
+    fn read(&mut self, alloc: Global, name: &str, limit: u64) -> Result<List<u8>, ReadRefusal>
+        ensures within { IfOk result (λ bytes. length bytes ≤ limit) }
+        ensures too_long { IfTooLong result (λ named. named ≡ limit) }
+
+        ensures failed { OnReadFailed result (self.new.faults ≡ next_count self.old.faults) }
+        ensures quiet { UnlessReadFailed result (self.new.faults ≡ self.old.faults) }
+        ensures never_falls { self.old.faults ≤ self.new.faults }
+    {
+        let answer = read_opened(fs::open(self.rt, name), alloc, limit);
         if let Err(ReadRefusal::Failed) = answer {
             self.faults = self.faults.saturating_add(1);
         }
         answer
+    }
+}
+
+/// All bytes of a file that was opened, where they are at most `limit`. `Failed` is an error where it
+/// was opened, or of a read.
+pub fn read_opened<F: Read + Drop>(
+    opened: io::Result<F>,
+    alloc: Global,
+    limit: u64,
+) -> Result<List<u8>, ReadRefusal>
+    ensures refused { OnErr opened (result ≡ Err ReadRefusal.Failed) }
+    ensures whole { IfOk opened (λ file. IfOk result (λ bytes. IfSome (F.remaining file) (λ left. bytes ≡ left))) }
+    ensures within { IfOk result (λ bytes. length bytes ≤ limit) }
+    ensures too_long { IfTooLong result (λ named. named ≡ limit) }
+    ensures longer { IfOk opened (λ file.
+        IfTooLong result (λ _. IfSome (F.remaining file) (λ left. limit < length left))) }
+{
+    match opened {
+        Ok(mut file) => read_whole(&mut file, alloc, limit),
+        Err(_) => Err(ReadRefusal::Failed),
     }
 }
 

@@ -14,7 +14,7 @@ pub mod sink;
 pub mod steady;
 pub mod stream_sink;
 
-pub use file_shelf::FileShelf;
+pub use file_shelf::{FileShelf, read_opened};
 pub use list::List;
 pub use memory::Memory;
 pub use memory_shelf::MemoryShelf;
