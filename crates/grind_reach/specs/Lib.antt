@@ -5,3 +5,4 @@ pub mod ReadingsCases
 pub mod Marks
 pub mod MarksCases
 pub mod Values
+pub mod Laws

@@ -4,12 +4,14 @@
 #![tactic(auto)]
 
 pub mod algebra;
+pub mod laws;
 pub mod marking;
 pub mod readers;
-pub mod reading;
+mod reading;
 pub mod walk;
 
 pub use algebra::Algebra;
+pub use laws::{readings_have_their_values, readings_stay};
 pub use marking::{is_marked, needed_nodes};
 pub use readers::{last_reader, last_readers, last_uses};
 pub use walk::{held, read_all, read_term};
