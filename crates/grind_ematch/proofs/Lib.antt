@@ -8,3 +8,5 @@ pub mod SceneLemmas
 pub mod NodeLemmas
 pub mod ListLemmas
 pub mod MatchLemmas
+pub mod ThinningLemmas
+pub mod BucketLemmas

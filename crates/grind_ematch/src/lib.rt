@@ -1,6 +1,7 @@
 //! Matches of theorems: which substitutions make the patterns of a theorem equal, up to class, to terms that are there.
 #![tactic(auto)]
 
+pub mod buckets;
 pub mod candidates;
 pub mod found;
 pub mod joining;

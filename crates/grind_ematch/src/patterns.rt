@@ -44,7 +44,7 @@ pub fn at_patterns(
     let mut found = start(alloc, query, 0)?;
     for pattern in patterns {
         let list = at_pattern(alloc, query, pattern)?;
-        let both = joined(alloc, found.as_slice(), list.as_slice())?;
+        let both = joined(alloc, found.as_slice(), list)?;
         found = thinned(alloc, both)?;
     }
     Ok(found)

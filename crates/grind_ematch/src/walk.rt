@@ -76,7 +76,7 @@ fn at_args(
             Ok(list) => list,
             Err(want) => return Err(want),
         };
-        found = joined(alloc, found.as_slice(), list.as_slice())?;
+        found = joined(alloc, found.as_slice(), list)?;
     }
     Ok(found)
 }

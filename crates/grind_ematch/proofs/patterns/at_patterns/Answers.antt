@@ -18,7 +18,7 @@ loop-pattern-preserved c =
     let both = c.in_ok-both.both in
     let new = c.in_ok-found-2.found in
     let joins : Joins c.loop-pattern.found c.in_ok-list.list both =
-    rw (← c.as_slice.ensures.value, ← c.as_slice-in-loop-pattern.ensures.value) c.in_ok-both.ensures in
+    rw (← c.as_slice.ensures.value) c.in_ok-both.ensures in
     let next = patterns_next query c.vars-vars.ensures.keeps.partition done item c.loop-pattern.found c.in_ok-list.list both
     c.in_ok-list.ensures joins c.loop-pattern.invariant in
     let thin = Represents-thin query (MeetAll query.scene (done ++ item ∷ [])) (IsVarOf (done ++ item ∷ [])) both new

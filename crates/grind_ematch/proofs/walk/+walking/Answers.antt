@@ -43,7 +43,7 @@ at_args-loop-k-preserved t c =
     let test = c.loop-k-test.true in
     let less : k < length ids = omega (arith, pairs, test) in
     let joins : Joins c.loop-k.found c.in-Ok.list new =
-    rw (← c.as_slice.ensures.value, ← c.as_slice-in-loop-k.ensures.value) c.in_ok-found-2.ensures in
+    rw (← c.as_slice.ensures.value) c.in_ok-found-2.ensures in
     let next = args_next query c.targets-nodes.ensures.keeps.partition from (take k args) (take k ids) arg id
     c.targets-nodes.result.now c.loop-k.found c.in-Ok.list new (same_long args ids k pairs) c.targets-nodes.ensures.targets
     c.in-Ok.ensures joins c.loop-k.invariant in

@@ -1,6 +1,6 @@
 use Rattle.std.proofs.Common.{take}
 use Rattle.grind_ematch.specs.Partials.{Joins}
-use Rattle.grind_ematch.proofs.joining.joined.Given as goal
+use Rattle.grind_ematch.proofs.joining.joined_at.Given as goal
 
 abbrev pub invariant-loop-one : goal.invariant-loop-one
-invariant-loop-one l = Joins (take l.one-index l.left) l.right l.found
+invariant-loop-one l = Joins (take l.one-index l.left) l.fn.right l.found

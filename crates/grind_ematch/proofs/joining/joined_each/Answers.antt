@@ -3,7 +3,7 @@ use Rattle.grind_ematch.specs.declared.partial.Partial.{Partial}
 use Rattle.grind_ematch.specs.Partials.{Joins}
 use Rattle.grind_ematch.proofs.Along.{take_next, take_whole}
 use Rattle.grind_ematch.proofs.JoinLemmas.{Joins-first, Joins-next}
-use Rattle.grind_ematch.proofs.joining.joined.Goals as goal
+use Rattle.grind_ematch.proofs.joining.joined_each.Goals as goal
 
 pub loop-one-init : goal.loop-one-init
 loop-one-init c =
