@@ -11,13 +11,13 @@ use Rattle.grind_term_graph.specs.Shape.{IsTable}
 use Rattle.grind_term_graph.proofs.Tables.{WellShaped-at}
 use Rattle.grind_schemes.specs.Goals.{GoalData}
 use Rattle.grind_schemes.specs.declared.lemmas.Lemmas.{Lemmas}
-use Rattle.grind_proof_kernel.proofs.Growth.{some_and_then}
-use Rattle.grind_proof_kernel.specs.declared.claim.Claim.{Claim}
-use Rattle.grind_proof_kernel.specs.declared.claim.Claim.TheVariants.{Holds, Fails, Same, Differ, Absurd}
-use Rattle.grind_proof_kernel.specs.declared.proof.Line.{Line}
-use Rattle.grind_proof_kernel.specs.declared.proof.Proof.{Proof}
-use Rattle.grind_proof_kernel.specs.Claims.{claim_at}
-use Rattle.grind_proof_kernel.specs.Rules.{IsClash}
+use Rattle.grind_claims.proofs.Growth.{some_and_then}
+use Rattle.grind_claims.specs.declared.claim.Claim.{Claim}
+use Rattle.grind_claims.specs.declared.claim.Claim.TheVariants.{Holds, Fails, Same, Differ, Absurd}
+use Rattle.grind_claims.specs.declared.proof.Line.{Line}
+use Rattle.grind_claims.specs.declared.proof.Proof.{Proof}
+use Rattle.grind_claims.specs.Claims.{claim_at, AreClaimsAt}
+use Rattle.grind_rules.specs.Rules.{IsClash}
 use Rattle.grind_proof_kernel.specs.Typing.{Reaches}
 use Rattle.grind_classes.specs.Classes.{IsActive, AreTogether}
 use Rattle.grind_congruence.specs.declared.edge.Edge.{Edge}
@@ -285,13 +285,23 @@ pub ends_claims : (proof : Proof) (number a b : ℕ) → EndsWith proof 0 number
 ends_claims proof number a b h = claim_of_some (slice_get proof.lines number) (Same a b) h.1
 
 -- a formula that holds and fails, and two terms that are equal and different
-pub opposed_clash : (nodes : List Node) (first second : Option Claim) (n : ℕ) → first ≡ Some (Holds n) → second ≡ Some (Fails n) →
-    IsClash nodes (first ∷ second ∷ []) Absurd
-opposed_clash nodes first second n one other = (refl, inl (first, second, inl refl, inl (n, one, other)))
+pub opposed_clash : (nodes : List Node) (lines : List Line) (first second n : ℕ) → claim_at lines first ≡ Some (Holds n) →
+    claim_at lines second ≡ Some (Fails n) →
+    (claims : List Claim) × AreClaimsAt lines (first ∷ second ∷ []) claims × IsClash nodes claims Absurd
+opposed_clash nodes lines first second n one other = (
+  Holds n ∷ Fails n ∷ [],
+  (one, (other, tt)),
+  (refl, inl (Holds n, Fails n, inl refl, inl (n, refl, refl))),
+)
 
-pub split_clash : (nodes : List Node) (first second : Option Claim) (a b : ℕ) → first ≡ Some (Same a b) → second ≡ Some (Differ a b) →
-    IsClash nodes (first ∷ second ∷ []) Absurd
-split_clash nodes first second a b one other = (refl, inl (first, second, inl refl, inr (a, b, one, inl other)))
+pub split_clash : (nodes : List Node) (lines : List Line) (first second a b : ℕ) → claim_at lines first ≡ Some (Same a b) →
+    claim_at lines second ≡ Some (Differ a b) →
+    (claims : List Claim) × AreClaimsAt lines (first ∷ second ∷ []) claims × IsClash nodes claims Absurd
+split_clash nodes lines first second a b one other = (
+  Same a b ∷ Differ a b ∷ [],
+  (one, (other, tt)),
+  (refl, inl (Same a b, Differ a b, inl refl, inr (a, b, refl, inl refl))),
+)
 
 -- an item that stands at no place is not in the list
 pub nowhere : (xs : List ℕ) (x : ℕ) → ((k : ℕ) → k < length xs → slice_get xs k ≡ Some x → ⊥) → Contains xs x → ⊥

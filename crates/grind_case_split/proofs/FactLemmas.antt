@@ -10,8 +10,8 @@ use Rattle.grind_term_graph.specs.Terms.{prop, sort_at}
 use Rattle.grind_term_graph.specs.Shape.{IsTable, IsShaped}
 use Rattle.grind_term_graph.proofs.Tables.{WellShaped-at, WellShaped-append, sort_at-below}
 use Rattle.grind_schemes.specs.Goals.{GoalData, IsGoal, IsFormula}
-use Rattle.grind_proof_kernel.specs.Claims.{AreOfOneSort}
-use Rattle.grind_proof_kernel.specs.Rules.{IsEquation}
+use Rattle.grind_claims.specs.Claims.{AreOfOneSort}
+use Rattle.grind_rules.specs.Rules.{IsEquation}
 use Rattle.grind_case_split.specs.declared.fact.Fact.{Fact}
 use Rattle.grind_case_split.specs.Congruences.{IsNegation, IsGiven, IsDenied}
 use Rattle.grind_case_split.specs.Facts.{IsReadAs, IsSorted, IsSaid, IsFact, equates, HasFact}

@@ -9,10 +9,10 @@ use Rattle.grind_term_graph.specs.declared.node.Node.{Node}
 use Rattle.grind_term_graph.specs.Shape.{IsTable}
 use Rattle.grind_schemes.specs.Goals.{GoalData, IsGoal}
 use Rattle.grind_schemes.specs.declared.lemmas.Lemmas.{Lemmas}
-use Rattle.grind_proof_kernel.specs.declared.claim.Claim.TheVariants.{Same}
-use Rattle.grind_proof_kernel.specs.declared.proof.Proof.{Proof}
-use Rattle.grind_proof_kernel.specs.Rules.{IsEquation}
-use Rattle.grind_proof_kernel.proofs.Growth.{item_stays}
+use Rattle.grind_claims.specs.declared.claim.Claim.TheVariants.{Same}
+use Rattle.grind_claims.specs.declared.proof.Proof.{Proof}
+use Rattle.grind_rules.specs.Rules.{IsEquation}
+use Rattle.grind_claims.proofs.Growth.{item_stays}
 use Rattle.grind_classes.specs.Classes.{AreTogether}
 use Rattle.grind_congruence.specs.declared.edge.Edge.{Edge}
 use Rattle.grind_congruence.specs.Congruence.{Congruence}

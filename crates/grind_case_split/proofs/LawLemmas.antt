@@ -10,7 +10,7 @@ use Rattle.grind_term_graph.specs.declared.node.Node.{Node}
 use Rattle.grind_term_graph.specs.Shape.{IsTable}
 use Rattle.grind_term_graph.proofs.Tables.{WellShaped-at}
 use Rattle.grind_schemes.specs.Goals.{GoalData}
-use Rattle.grind_proof_kernel.specs.Rules.{IsEquation}
+use Rattle.grind_rules.specs.Rules.{IsEquation}
 use Rattle.grind_congruence.specs.Derivable.Derivable.{given}
 use Rattle.grind_case_split.specs.Congruences.{IsGiven, IsDenied, CongruenceEntails, ComparesTerms}
 use Rattle.grind_case_split.specs.Laws.{GroundGoals}

@@ -1,5 +1,5 @@
 -- Lines put behind a proof whose lines stand in the root.
-use Rattle.std.specs.Prelude.{◌≡◌, ◌==◌, ℕ, zero, suc, ◌+◌, ◌<◌, ◌≤◌, true, List, [], ◌∷◌, ◌++◌, Option, Some, None, All, length, reverse, slice_get, refl}
+use Rattle.std.specs.Prelude.{◌≡◌, ◌==◌, ℕ, zero, suc, ◌+◌, ◌<◌, ◌≤◌, Bool, true, false, List, [], ◌∷◌, ◌++◌, Option, Some, None, All, length, reverse, slice_get, refl}
 use Rattle.std.specs.Option.{IsSomeAnd}
 use Rattle.std.proofs.Common.{arith, sym, ap, ◌∙◌, subst, inl, inr, length-append}
 use Rattle.std.proofs.lemmas.Bool.{cases_eq}
@@ -9,18 +9,19 @@ use Rattle.grind_term_graph.specs.declared.node.Node.{Node}
 use Rattle.grind_term_graph.specs.Terms.{Terms}
 use Rattle.grind_schemes.specs.Goals.{GoalData}
 use Rattle.grind_schemes.specs.declared.lemmas.Lemmas.{Lemmas}
-use Rattle.grind_proof_kernel.specs.declared.claim.Claim.{Claim}
-use Rattle.grind_proof_kernel.specs.declared.claim.Claim.TheVariants.{Absurd}
-use Rattle.grind_proof_kernel.specs.declared.proof.Branch.{Branch}
-use Rattle.grind_proof_kernel.specs.declared.proof.Line.{Line}
-use Rattle.grind_proof_kernel.specs.declared.proof.Proof.{Proof}
-use Rattle.grind_proof_kernel.specs.declared.proof.Rule.{Rule}
-use Rattle.grind_proof_kernel.specs.Claims.{IsFormed, claim_at, claims_at}
-use Rattle.grind_proof_kernel.specs.Rules.{Says}
-use Rattle.grind_proof_kernel.specs.Typing.{HasTerms, Reaches, Serves, IsTypedAs, TypedLine, IsClosed, IsGoodBranch, last_in, appended}
+use Rattle.grind_claims.specs.declared.claim.Claim.{Claim}
+use Rattle.grind_claims.specs.declared.claim.Claim.TheVariants.{Holds, Fails, Absurd}
+use Rattle.grind_claims.specs.declared.proof.Branch.{Branch}
+use Rattle.grind_claims.specs.declared.proof.Line.{Line}
+use Rattle.grind_claims.specs.declared.proof.Proof.{Proof}
+use Rattle.grind_claims.specs.declared.proof.Rule.{Rule}
+use Rattle.grind_claims.specs.Claims.{IsFormed, claim_at, AreClaimsAt}
+use Rattle.grind_rules.specs.Rules.{RuleAllows, IsEquation, IsEq}
+use Rattle.grind_proof_kernel.specs.Typing.{LinesAllow, HasTerms, Reaches, Serves, IsTypedAs, TypedLine, IsClosed, IsGoodBranch, last_in, appended}
 use Rattle.grind_proof_kernel.specs.Laws.{Extends, TypedLinesStay, TypedNextLine}
-use Rattle.grind_proof_kernel.proofs.Growth.{some_and_then, field_is_still}
+use Rattle.grind_claims.proofs.Growth.{some_and_then, field_is_still}
 use Rattle.grind_case_split.specs.Congruences.{IsProofOf}
+use Rattle.grind_case_split.specs.Facts.{IsReadAs, literal, sides_claim}
 use Rattle.grind_case_split.specs.Writing.{IsRooted, ClaimsStay, IsWritten, root_line}
 
 -- what holds of all items holds of each that stands there
@@ -62,7 +63,7 @@ serves_all branches lines p root within = (
 -- a line that the rule lets claim this is typed behind the others
 put_typed : (lemmas : Lemmas) (goal : GoalData) (proof : Proof) (rule : Rule) (premises : List ℕ) (claim : Claim) →
     IsRooted lemmas goal proof → IsFormed goal.terms.nodes claim → All (λ p. p < length proof.lines) premises →
-    Says lemmas goal goal.terms.nodes None rule (claims_at proof.lines premises) claim →
+    LinesAllow lemmas goal goal.terms.nodes proof.lines None rule premises claim →
     IsTypedAs lemmas goal proof (length proof.lines) (root_line rule premises claim)
 put_typed lemmas goal proof rule premises claim rooted formed before says =
     let nodes : goal.terms.nodes ≡ proof.terms.nodes = sym (rooted_terms lemmas goal proof rooted) in
@@ -71,12 +72,39 @@ put_typed lemmas goal proof rule premises claim rooted formed before says =
       branch = omega arith;
       premises = All-weaker (λ p. p < length proof.lines) (Serves proof.branches proof.lines (length proof.lines) 0)
           (λ p within. serves_all proof.branches proof.lines p rooted.root within) premises before;
-      rule = subst (λ (all : List Node). Says lemmas goal all None rule (claims_at proof.lines premises) claim) nodes says;
+      rule = subst (λ (all : List Node). LinesAllow lemmas goal all proof.lines None rule premises claim) nodes says;
     }
+
+-- a claim that a rule allows from nothing is allowed from no lines
+pub allowed_first : (lemmas : Lemmas) (goal : GoalData) (lines : List Line) (rule : Rule) (premises : List ℕ) (claim : Claim) → premises ≡ [] →
+    RuleAllows lemmas goal goal.terms.nodes None rule [] claim → LinesAllow lemmas goal goal.terms.nodes lines None rule premises claim
+allowed_first lemmas goal lines rule premises claim none allowed =
+    ([], subst (λ (numbers : List ℕ). AreClaimsAt lines numbers []) (sym none) tt, allowed)
+
+-- the equation that a formula is read as
+equation_is : (nodes : List Node) (node : ℕ) (plain : Bool) (equation left right : ℕ) → IsReadAs nodes node plain equation left right →
+    IsEquation nodes equation left right
+equation_is nodes node true equation left right h = subst (λ (n : ℕ). IsEquation nodes n left right) (sym h.0) h.1
+equation_is nodes node false equation left right h = h.1
+
+-- what a line says of an equation gives its sides
+pub sides_allowed : (nodes : List Node) (lines : List Line) (told node : ℕ) (holds plain : Bool) (equation left right : ℕ) (claim : Claim) →
+    IsReadAs nodes node plain equation left right → claim_at lines told ≡ Some (literal holds equation) →
+    claim ≡ sides_claim holds left right → (claims : List Claim) × AreClaimsAt lines (told ∷ []) claims × IsEq nodes claims claim
+sides_allowed nodes lines told node true plain equation left right claim read says is = (
+  Holds equation ∷ [],
+  (says, tt),
+  (equation, left, right, equation_is nodes node plain equation left right read, inl (refl, is)),
+)
+sides_allowed nodes lines told node false plain equation left right claim read says is = (
+  Fails equation ∷ [],
+  (says, tt),
+  (equation, left, right, equation_is nodes node plain equation left right read, inr (refl, is)),
+)
 
 pub put_line_typed : TypedNextLine → (lemmas : Lemmas) (goal : GoalData) (proof : Proof) (rule : Rule) (premises : List ℕ) (claim : Claim) →
     IsRooted lemmas goal proof → IsFormed goal.terms.nodes claim → All (λ p. p < length proof.lines) premises →
-    Says lemmas goal goal.terms.nodes None rule (claims_at proof.lines premises) claim →
+    LinesAllow lemmas goal goal.terms.nodes proof.lines None rule premises claim →
     TypedLine lemmas goal (appended proof (root_line rule premises claim)) (length proof.lines)
 put_line_typed next lemmas goal proof rule premises claim rooted formed before says =
     next lemmas goal proof (root_line rule premises claim) (put_typed lemmas goal proof rule premises claim rooted formed before says)
@@ -104,7 +132,7 @@ put_rooted stays lemmas goal proof line root rooted last =
 pub put_written : TypedLinesStay → TypedNextLine → (lemmas : Lemmas) (goal : GoalData) (old new : Proof) (rule : Rule) (premises : List ℕ) (claim : Claim) (number : ℕ) →
     new ≡ appended old (root_line rule premises claim) → number ≡ length old.lines →
     IsRooted lemmas goal old → IsFormed goal.terms.nodes claim → All (λ p. p < length old.lines) premises →
-    Says lemmas goal goal.terms.nodes None rule (claims_at old.lines premises) claim → IsWritten lemmas goal old new number claim
+    LinesAllow lemmas goal goal.terms.nodes old.lines None rule premises claim → IsWritten lemmas goal old new number claim
 put_written stays next lemmas goal old new rule premises claim number is place rooted formed before says =
     let line : Line = root_line rule premises claim in
     let last = put_line_typed next lemmas goal old rule premises claim rooted formed before says in

@@ -13,9 +13,9 @@ use Rattle.grind_term_graph.specs.declared.node.Node.{Node}
 use Rattle.grind_term_graph.specs.Terms.{prop, sort_at}
 use Rattle.grind_term_graph.specs.Shape.{IsTable}
 use Rattle.grind_term_graph.proofs.Tables.{WellShaped-at}
-use Rattle.grind_proof_kernel.specs.declared.claim.Claim.{Claim}
-use Rattle.grind_proof_kernel.specs.Tables.{free_truth, of_one, joined_truth, truth_at, node_truth, truths_of, truth_of, premise_truth, Follows, IsTable as IsTruthTable}
-use Rattle.grind_proof_kernel.proofs.TruthLemmas.{first_truths_agree, truths_next}
+use Rattle.grind_claims.specs.declared.claim.Claim.{Claim}
+use Rattle.grind_rules.specs.Tables.{free_truth, of_one, joined_truth, truth_at, node_truth, truths_of, truth_of, literal_truth, Follows, IsTableRule}
+use Rattle.grind_rules.proofs.TruthLemmas.{first_truths_agree, truths_next}
 use Rattle.grind_case_split.specs.Congruences.{IsNegation}
 use Rattle.grind_case_split.specs.Facts.{literal}
 use Rattle.grind_case_split.proofs.LawLemmas.{some_item}
@@ -97,18 +97,18 @@ negation_truth nodes m n t table is =
     ∙ ap (λ (list : List ℕ). of_one not (map (truth_at known) list)) found.2.1
     ∙ ap (λ (o : Option Bool). of_one not (o ∷ [])) inner
 
-one_expressed : (truth : ℕ → Option Bool) (claim : Claim) → IsSome (premise_truth truth (Some claim)) →
-    All (λ (premise : Option Claim). IsSome (premise_truth truth premise)) (Some claim ∷ [])
+one_expressed : (truth : ℕ → Option Bool) (claim : Claim) → IsSome (literal_truth truth claim) →
+    All (λ premise. IsSome (literal_truth truth premise)) (claim ∷ [])
 one_expressed truth claim h =
-    let P : Option Claim → Type 0 = λ premise. IsSome (premise_truth truth premise) in All-cons P (Some claim) [] h (All-nil P)
+    let P : Claim → Type 0 = λ premise. IsSome (literal_truth truth premise) in All-cons P claim [] h (All-nil P)
 
 -- what follows of a formula from what its negation is
 turned_follows : (truth : ℕ → Option Bool) (m n : ℕ) (holds t : Bool) → truth m ≡ Some t → truth n ≡ Some (not t) →
-    Follows truth (Some (literal holds n) ∷ []) (literal (not holds) m)
+    Follows truth (literal holds n ∷ []) (literal (not holds) m)
 turned_follows truth m n true t free negation = record {
   expressed = one_expressed truth (literal true n) cc;
   concluded = cc;
-  follows = λ held. let first : premise_truth truth (Some (literal true n)) ≡ Some true = held 0 (Some (literal true n)) (omega arith) in cc;
+  follows = λ held. let first : literal_truth truth (literal true n) ≡ Some true = held 0 (literal true n) (omega arith) in cc;
 }
 turned_follows truth m n false true free negation = record {
   expressed = one_expressed truth (literal false n) cc;
@@ -118,11 +118,11 @@ turned_follows truth m n false true free negation = record {
 turned_follows truth m n false false free negation = record {
   expressed = one_expressed truth (literal false n) cc;
   concluded = cc;
-  follows = λ held. let first : premise_truth truth (Some (literal false n)) ≡ Some true = held 0 (Some (literal false n)) (omega arith) in absurd cc;
+  follows = λ held. let first : literal_truth truth (literal false n) ≡ Some true = held 0 (literal false n) (omega arith) in absurd cc;
 }
 
 always_turned : (nodes : List Node) (m n : ℕ) (holds : Bool) (truths : List Bool) → IsTable [] nodes → m < length nodes → IsNegation nodes n m →
-    length truths ≡ 1 → Follows (truth_of nodes (m ∷ []) truths) (Some (literal holds n) ∷ []) (literal (not holds) m)
+    length truths ≡ 1 → Follows (truth_of nodes (m ∷ []) truths) (literal holds n ∷ []) (literal (not holds) m)
 always_turned nodes m n holds [] table within is count = absurd (omega arith)
 always_turned nodes m n holds (t ∷ []) table within is count =
     turned_follows (truth_of nodes (m ∷ []) (t ∷ [])) m n holds t (free_node_truth nodes m t within) (negation_truth nodes m n t table is)
@@ -130,7 +130,7 @@ always_turned nodes m n holds (t ∷ u ∷ rest) table within is count = absurd 
 
 -- the rule `table`, with the equation as the free formula
 pub turned_table : (nodes : List Node) (m n : ℕ) (holds : Bool) → IsTable [] nodes → IsNegation nodes n m → sort_at nodes m ≡ Some prop →
-    IsTruthTable nodes (m ∷ []) (Some (literal holds n) ∷ []) (literal (not holds) m)
+    IsTableRule nodes (m ∷ []) (literal holds n ∷ []) (literal (not holds) m)
 turned_table nodes m n holds table is formula = record {
   few = omega arith;
   different = λ i j d before within. absurd (omega arith);

@@ -5,8 +5,8 @@ use Rattle.grind_term_graph.specs.declared.head.Head.TheVariants as head
 use Rattle.grind_term_graph.specs.declared.node.Node.{Node}
 use Rattle.grind_schemes.specs.Goals.{GoalData}
 use Rattle.grind_schemes.specs.declared.lemmas.Lemmas.{Lemmas}
-use Rattle.grind_proof_kernel.specs.declared.proof.Proof.{Proof}
-use Rattle.grind_proof_kernel.specs.Rules.{IsEquation}
+use Rattle.grind_claims.specs.declared.proof.Proof.{Proof}
+use Rattle.grind_rules.specs.Rules.{IsEquation}
 use Rattle.grind_proof_kernel.specs.Typing.{Typed}
 use Rattle.grind_congruence.specs.Derivable.{Derivable}
 use Rattle.grind_case_split.specs.declared.plain.Plain.{Plain}

@@ -3,11 +3,11 @@ use Rattle.std.specs.Prelude.{◌≡◌, ℕ, ◌<◌, Bool, true, false, List, 
 use Rattle.grind_term_graph.specs.declared.node.Node.{Node}
 use Rattle.grind_term_graph.specs.Terms.{prop, sort_at}
 use Rattle.grind_schemes.specs.Goals.{GoalData}
-use Rattle.grind_proof_kernel.specs.declared.claim.Claim.{Claim}
-use Rattle.grind_proof_kernel.specs.declared.claim.Claim.TheVariants.{Holds, Fails, Same, Differ}
-use Rattle.grind_proof_kernel.specs.Claims.{AreOfOneSort}
-use Rattle.grind_proof_kernel.specs.Rules.{IsEquation}
-use Rattle.grind_proof_kernel.specs.Tables.{alike}
+use Rattle.grind_claims.specs.declared.claim.Claim.{Claim}
+use Rattle.grind_claims.specs.declared.claim.Claim.TheVariants.{Holds, Fails, Same, Differ}
+use Rattle.grind_claims.specs.Claims.{AreOfOneSort}
+use Rattle.grind_rules.specs.Rules.{IsEquation}
+use Rattle.grind_rules.specs.Tables.{alike}
 use Rattle.grind_case_split.specs.declared.fact.Fact.{Fact}
 use Rattle.grind_case_split.specs.declared.fact.Reading.{Reading}
 use Rattle.grind_case_split.specs.Congruences.{IsNegation}

@@ -2,8 +2,8 @@
 use Rattle.std.specs.Prelude.{◌≡◌, ℕ, ◌<◌, true, false, List, Some, All, Contains, slice_get}
 use Rattle.grind_schemes.specs.Goals.{GoalData}
 use Rattle.grind_schemes.specs.declared.lemmas.Lemmas.{Lemmas}
-use Rattle.grind_proof_kernel.specs.declared.claim.Claim.TheVariants.{Same}
-use Rattle.grind_proof_kernel.specs.declared.proof.Proof.{Proof}
+use Rattle.grind_claims.specs.declared.claim.Claim.TheVariants.{Same}
+use Rattle.grind_claims.specs.declared.proof.Proof.{Proof}
 use Rattle.grind_classes.specs.Classes.{AreTogether}
 use Rattle.grind_congruence.specs.declared.edge.Edge.{Edge}
 use Rattle.grind_congruence.specs.Congruence.{Congruence}

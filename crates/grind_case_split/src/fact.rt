@@ -1,7 +1,7 @@
 //! What the hypotheses of a goal and the denial of its conclusion say of two terms.
 ghost use Rattle.std.specs.Prelude.{◌≡◌, ℕ, ◌<◌, ◌≤◌, length, Some, IfSome, IsNone};
 ghost use Rattle.grind_term_graph.specs.Terms.{prop, sort_at};
-ghost use Rattle.grind_proof_kernel.specs.Rules.{IsEquation};
+ghost use Rattle.grind_rules.specs.Rules.{IsEquation};
 ghost use Rattle.grind_case_split.specs.declared.fact.Fact.{Fact as Entry};
 ghost use Rattle.grind_case_split.specs.declared.fact.Reading.{Reading as Entry_of};
 ghost use Rattle.grind_case_split.specs.Congruences.{IsNegation};

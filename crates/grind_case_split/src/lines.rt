@@ -1,9 +1,10 @@
 //! Lines of the root of a proof.
 ghost use Rattle.std.specs.Prelude.{◌≡◌, ℕ, ◌<◌, ◌∷◌, [], None, All, IfOk, OnOk, Bool, false, not, length};
-ghost use Rattle.grind_proof_kernel.specs.declared.claim.Claim.TheVariants.{Absurd};
-ghost use Rattle.grind_proof_kernel.specs.Claims.{IsFormed, claim_at, claims_at};
-ghost use Rattle.grind_proof_kernel.specs.Rules.{Says, IsClash};
-ghost use Rattle.grind_proof_kernel.specs.Typing.{appended};
+ghost use Rattle.grind_claims.specs.declared.claim.Claim.TheVariants.{Absurd};
+ghost use Rattle.grind_claims.specs.declared.proof.Rule.TheVariants.{Clash};
+ghost use Rattle.grind_claims.specs.Claims.{IsFormed};
+ghost use Rattle.grind_rules.specs.Rules.{RuleAllows};
+ghost use Rattle.grind_proof_kernel.specs.Typing.{LinesAllow, appended};
 ghost use Rattle.grind_case_split.specs.Congruences.{IsProofOf};
 ghost use Rattle.grind_case_split.specs.Facts.{IsFact, literal, sides_claim, equates};
 ghost use Rattle.grind_case_split.specs.Writing.{IsRooted, Claims, IsWritten, root_line};
@@ -29,7 +30,7 @@ fn put(
     requires rooted { IsRooted lemmas.now goal.now proof.old }
     requires formed { IsFormed goal.now.terms.nodes claim }
     requires before { All (λ p. p < length proof.old.lines) premises }
-    requires says { Says lemmas.now goal.now goal.now.terms.nodes None rule (claims_at proof.old.lines premises) claim }
+    requires says { LinesAllow lemmas.now goal.now goal.now.terms.nodes proof.old.lines None rule premises claim }
     ensures written { IfOk result (λ number. IsWritten lemmas.now goal.now proof.old proof.new number claim) }
     ensures appended { OnOk result (proof.new ≡ appended proof.old (root_line rule premises claim)) }
 {
@@ -56,7 +57,7 @@ pub(crate) fn put_first(
 ) -> Result<u32, Memory>
     requires rooted { IsRooted lemmas.now goal.now proof.old }
     requires formed { IsFormed goal.now.terms.nodes claim }
-    requires says { Says lemmas.now goal.now goal.now.terms.nodes None rule [] claim }
+    requires says { RuleAllows lemmas.now goal.now goal.now.terms.nodes None rule [] claim }
     ensures { IfOk result (λ number. IsWritten lemmas.now goal.now proof.old proof.new number claim) }
 {
     let premises = List::new(alloc);
@@ -77,7 +78,7 @@ fn put_next(
     requires rooted { IsRooted lemmas.now goal.now proof.old }
     requires formed { IsFormed goal.now.terms.nodes claim }
     requires before { premise < length proof.old.lines }
-    requires says { Says lemmas.now goal.now goal.now.terms.nodes None rule (claim_at proof.old.lines premise ∷ []) claim }
+    requires says { LinesAllow lemmas.now goal.now goal.now.terms.nodes proof.old.lines None rule (premise ∷ []) claim }
     ensures { IfOk result (λ number. IsWritten lemmas.now goal.now proof.old proof.new number claim) }
 {
     let mut premises = List::new(alloc);
@@ -224,7 +225,7 @@ pub(crate) fn clash_line(
     requires rooted { IsRooted lemmas.now goal.now proof.old }
     requires one { one < length proof.old.lines }
     requires other { other < length proof.old.lines }
-    requires clash { IsClash goal.now.terms.nodes (claim_at proof.old.lines one ∷ claim_at proof.old.lines other ∷ []) Absurd }
+    requires clash { LinesAllow lemmas.now goal.now goal.now.terms.nodes proof.old.lines None Clash (one ∷ other ∷ []) Absurd }
     ensures { OnOk result (IsProofOf lemmas.now goal.now proof.new) }
 {
     let mut premises = List::new(alloc);

@@ -8,11 +8,12 @@ use Rattle.grind_term_graph.specs.Terms.{Terms}
 use Rattle.grind_term_graph.specs.Shape.{IsTable, IsBegun, IsTermTable}
 use Rattle.grind_schemes.specs.Goals.{GoalData, IsGoal}
 use Rattle.grind_schemes.specs.declared.lemmas.Lemmas.{Lemmas}
-use Rattle.grind_proof_kernel.specs.declared.proof.Line.{Line}
-use Rattle.grind_proof_kernel.specs.declared.proof.Proof.{Proof}
-use Rattle.grind_proof_kernel.specs.declared.proof.Rule.{Rule}
-use Rattle.grind_proof_kernel.specs.declared.proof.Rule.TheVariants as rules
-use Rattle.grind_proof_kernel.specs.Laws.{IsPremiseCount, TypedLinesCount}
+use Rattle.grind_claims.specs.declared.proof.Line.{Line}
+use Rattle.grind_claims.specs.declared.proof.Proof.{Proof}
+use Rattle.grind_claims.specs.declared.proof.Rule.{Rule}
+use Rattle.grind_claims.specs.declared.proof.Rule.TheVariants as rules
+use Rattle.grind_rules.specs.Laws.{IsPremiseCount}
+use Rattle.grind_proof_kernel.specs.Laws.{TypedLinesCount}
 use Rattle.grind_proof_kernel.specs.Typing.{Typed}
 use Rattle.grind_value_tables.specs.Laws.{TypedIsTrue}
 use Rattle.grind_case_split.specs.Congruences.{IsAnswered, CongruenceEntails, IsProofOf}

@@ -2,8 +2,8 @@
 use Rattle.std.specs.Prelude.{◌≡◌, length, All}
 use Rattle.grind_schemes.specs.Goals.{GoalData}
 use Rattle.grind_schemes.specs.declared.lemmas.Lemmas.{Lemmas}
-use Rattle.grind_proof_kernel.specs.declared.proof.Line.{Line}
-use Rattle.grind_proof_kernel.specs.declared.proof.Proof.{Proof}
+use Rattle.grind_claims.specs.declared.proof.Line.{Line}
+use Rattle.grind_claims.specs.declared.proof.Proof.{Proof}
 use Rattle.grind_proof_kernel.specs.Typing.{Typed}
 use Rattle.grind_case_split.specs.Congruences.{IsAnswered, CongruenceEntails}
 use Rattle.grind_report.specs.declared.report.Outcome.{Outcome}

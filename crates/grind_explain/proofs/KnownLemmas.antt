@@ -11,12 +11,12 @@ use Rattle.grind_term_graph.specs.declared.node.Node.{Node}
 use Rattle.grind_term_graph.specs.Terms.{Terms}
 use Rattle.grind_schemes.specs.Goals.{GoalData}
 use Rattle.grind_schemes.specs.declared.lemmas.Lemmas.{Lemmas}
-use Rattle.grind_proof_kernel.proofs.Growth.{some_and_then}
-use Rattle.grind_proof_kernel.specs.declared.claim.Claim.{Claim}
-use Rattle.grind_proof_kernel.specs.declared.claim.Claim.TheVariants.{Same}
-use Rattle.grind_proof_kernel.specs.declared.proof.Proof.{Proof}
-use Rattle.grind_proof_kernel.specs.Claims.{claim_at, claims_at}
-use Rattle.grind_proof_kernel.specs.Rules.{SayEqual, IsCong}
+use Rattle.grind_claims.proofs.Growth.{some_and_then}
+use Rattle.grind_claims.specs.declared.claim.Claim.{Claim}
+use Rattle.grind_claims.specs.declared.claim.Claim.TheVariants.{Same}
+use Rattle.grind_claims.specs.declared.proof.Proof.{Proof}
+use Rattle.grind_claims.specs.Claims.{AreClaimsAt}
+use Rattle.grind_rules.specs.Rules.{SayEqual, IsCong}
 use Rattle.grind_classes.specs.Classes.{IsActive, AreTogether}
 use Rattle.grind_congruence.specs.declared.edge.Edge.{Edge}
 use Rattle.grind_congruence.specs.Congruence.{Congruence, Fits}
@@ -122,16 +122,17 @@ AreTold-usable proof branch (a ∷ lefts) (b ∷ rights) [] h = absurd h
 
 -- their claims say that the pairs are equal
 AreTold-say : (proof : Proof) (branch : ℕ) (lefts rights numbers : List ℕ) → AreTold proof branch lefts rights numbers →
-    SayEqual lefts rights (claims_at proof.lines numbers)
-AreTold-say proof branch [] [] [] h = tt
+    (claims : List Claim) × AreClaimsAt proof.lines numbers claims × SayEqual lefts rights claims
+AreTold-say proof branch [] [] [] h = ([], tt, tt)
 AreTold-say proof branch (a ∷ lefts) (b ∷ rights) (n ∷ numbers) h =
-    (claim_at-tells proof branch n a b h.0, AreTold-say proof branch lefts rights numbers h.1)
+    let rest = AreTold-say proof branch lefts rights numbers h.1 in
+    (Same a b ∷ rest.0, (claim_at-tells proof branch n a b h.0, rest.1), (refl, rest.2))
 AreTold-say proof branch [] [] (n ∷ numbers) h = absurd h
 AreTold-say proof branch [] (b ∷ rights) numbers h = absurd h
 AreTold-say proof branch (a ∷ lefts) [] numbers h = absurd h
 AreTold-say proof branch (a ∷ lefts) (b ∷ rights) [] h = absurd h
 
-some_said : (xs ys : List ℕ) (claims : List (Option Claim)) → xs ≢ [] → SayEqual xs ys claims → claims ≢ []
+some_said : (xs ys : List ℕ) (claims : List Claim) → xs ≢ [] → SayEqual xs ys claims → claims ≢ []
 some_said [] ys claims some h e = some refl
 some_said (a ∷ xs) [] claims some h e = h
 some_said (a ∷ xs) (b ∷ ys) [] some h e = h
@@ -141,13 +142,15 @@ some_said (a ∷ xs) (b ∷ ys) (claim ∷ claims) some h e = absurd cc
 pub IsCong-told : (old new : Proof) (branch : ℕ) (edges : List Edge) (count a b : ℕ) (lefts rights numbers : List ℕ) →
     new.terms ≡ old.terms → (joined : AreJoinedWithin old.terms.nodes edges count a b) → lefts ≡ joined.left.args →
     rights ≡ joined.right.args → AreTold new branch lefts rights numbers →
-    IsCong new.terms.nodes (claims_at new.lines numbers) (Same a b)
+    (claims : List Claim) × AreClaimsAt new.lines numbers claims × IsCong new.terms.nodes claims (Same a b)
 IsCong-told old new branch edges count a b lefts rights numbers terms joined left_is right_is told =
-    let say : SayEqual joined.left.args joined.right.args (claims_at new.lines numbers) =
-    subst (λ (xs : List ℕ). SayEqual xs joined.right.args (claims_at new.lines numbers)) left_is
-    (subst (λ (ys : List ℕ). SayEqual lefts ys (claims_at new.lines numbers)) right_is (AreTold-say new branch lefts rights numbers told)) in
+    let told_by = AreTold-say new branch lefts rights numbers told in
+    let claims : List Claim = told_by.0 in
+    let say : SayEqual joined.left.args joined.right.args claims =
+    subst (λ (xs : List ℕ). SayEqual xs joined.right.args claims) left_is
+    (subst (λ (ys : List ℕ). SayEqual lefts ys claims) right_is told_by.2) in
     let nodes : new.terms.nodes ≡ old.terms.nodes = ap (λ (t : Terms). t.nodes) terms in
-    subst (λ (ns : List Node). IsCong ns (claims_at new.lines numbers) (Same a b)) (sym nodes) (
+    let follows : IsCong new.terms.nodes claims (Same a b) = subst (λ (ns : List Node). IsCong ns claims (Same a b)) (sym nodes) (
       a,
       b,
       joined.left,
@@ -157,9 +160,10 @@ IsCong-told old new branch edges count a b lefts rights numbers terms joined lef
       joined.right_is,
       joined.head,
       joined.sort,
-      some_said joined.left.args joined.right.args (claims_at new.lines numbers) joined.has_args say,
+      some_said joined.left.args joined.right.args claims joined.has_args say,
       say,
-    )
+    ) in
+    (claims, told_by.1, follows)
 
 some_at : {X : Type 0} (P : X → Type 0) (found : Option X) (x : X) → found ≡ Some x → IsSomeAnd found P → P x
 some_at {X = X} P found x is h = subst (λ (o : Option X). IsSomeAnd o P) is h

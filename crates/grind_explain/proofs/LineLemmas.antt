@@ -8,17 +8,16 @@ use Rattle.std.proofs.lemmas.List.Elements.{All-nil, All-cons, All-append, All-w
 use Rattle.grind_term_graph.specs.Terms.{Terms}
 use Rattle.grind_schemes.specs.Goals.{GoalData}
 use Rattle.grind_schemes.specs.declared.lemmas.Lemmas.{Lemmas}
-use Rattle.grind_proof_kernel.specs.declared.claim.Claim.{Claim}
-use Rattle.grind_proof_kernel.specs.declared.claim.Claim.TheVariants.{Same}
-use Rattle.grind_proof_kernel.specs.declared.proof.Branch.{Branch}
-use Rattle.grind_proof_kernel.specs.declared.proof.Line.{Line}
-use Rattle.grind_proof_kernel.specs.declared.proof.Proof.{Proof}
-use Rattle.grind_proof_kernel.specs.declared.proof.Rule.{Rule}
-use Rattle.grind_proof_kernel.specs.Claims.{AreOfOneSort, claim_at, claims_at}
-use Rattle.grind_proof_kernel.specs.Rules.{Says}
-use Rattle.grind_proof_kernel.specs.Typing.{IsBranch, Reaches, Serves, IsTypedAs, TypedLine, literal_of, appended}
+use Rattle.grind_claims.specs.declared.claim.Claim.{Claim}
+use Rattle.grind_claims.specs.declared.claim.Claim.TheVariants.{Same}
+use Rattle.grind_claims.specs.declared.proof.Branch.{Branch}
+use Rattle.grind_claims.specs.declared.proof.Line.{Line}
+use Rattle.grind_claims.specs.declared.proof.Proof.{Proof}
+use Rattle.grind_claims.specs.declared.proof.Rule.{Rule}
+use Rattle.grind_claims.specs.Claims.{AreOfOneSort, claim_at, AreClaimsAt}
+use Rattle.grind_proof_kernel.specs.Typing.{LinesAllow, IsBranch, Reaches, Serves, IsTypedAs, TypedLine, literal_of, appended}
 use Rattle.grind_proof_kernel.specs.Laws.{Extends, TypedLinesStay, TypedNextLine}
-use Rattle.grind_proof_kernel.proofs.Growth.{some_and_then, some_and_stays}
+use Rattle.grind_claims.proofs.Growth.{some_and_then, some_and_stays}
 use Rattle.grind_explain.specs.Explained.{AreTyped, IsReady, Tells, Appends, EndsWith}
 use Rattle.grind_explain.specs.Deriving.{IsUsable}
 
@@ -107,12 +106,14 @@ claim_at-tells proof branch number a b h =
 -- the claims of two lines that tell equalities
 pub claims_at-two : (proof : Proof) (branch first second a b d : ℕ) (premises : List ℕ) → premises ≡ first ∷ second ∷ [] →
     Tells proof branch first a b → Tells proof branch second b d →
-    claims_at proof.lines premises ≡ Some (Same a b) ∷ Some (Same b d) ∷ []
+    AreClaimsAt proof.lines premises (Same a b ∷ Same b d ∷ [])
 claims_at-two proof branch first second a b d premises is one two =
-    let left = claim_at-tells proof branch first a b one in
-    let right = claim_at-tells proof branch second b d two in
-    rw is (ap (λ (claim : Option Claim). claim ∷ claim_at proof.lines second ∷ []) left
-    ∙ ap (λ (claim : Option Claim). Some (Same a b) ∷ claim ∷ []) right)
+    rw is (claim_at-tells proof branch first a b one, (claim_at-tells proof branch second b d two, tt))
+
+-- the claim of a line that tells an equality
+pub claims_at-one : (proof : Proof) (branch told a b : ℕ) (premises : List ℕ) → premises ≡ told ∷ [] →
+    Tells proof branch told a b → AreClaimsAt proof.lines premises (Same a b ∷ [])
+claims_at-one proof branch told a b premises is tells = rw is (claim_at-tells proof branch told a b tells, tt)
 
 -- the line of these parts
 abbrev pub line_of : ℕ → Rule → List ℕ → ℕ → ℕ → Line
@@ -121,7 +122,7 @@ line_of branch rule premises a b = record { branch = branch; rule = rule; premis
 -- a line that the rule lets claim this is typed behind the others
 put_typed : (lemmas : Lemmas) (goal : GoalData) (proof : Proof) (branch : ℕ) (rule : Rule) (premises : List ℕ) (a b : ℕ) →
     IsReady lemmas goal proof branch → AreOfOneSort proof.terms.nodes a b → All (IsUsable proof branch) premises →
-    ((literal : Option Claim) → Says lemmas goal proof.terms.nodes literal rule (claims_at proof.lines premises) (Same a b)) →
+    ((literal : Option Claim) → LinesAllow lemmas goal proof.terms.nodes proof.lines literal rule premises (Same a b)) →
     IsTypedAs lemmas goal proof (length proof.lines) (line_of branch rule premises a b)
 put_typed lemmas goal proof branch rule premises a b ready formed usable says = record {
   claim = formed;
@@ -139,7 +140,7 @@ one_more xs x = simp length-append (omega arith)
 pub put_appends : TypedLinesStay → TypedNextLine → (lemmas : Lemmas) (goal : GoalData) (old new : Proof) (branch : ℕ) (rule : Rule)
     (premises : List ℕ) (a b : ℕ) → new ≡ appended old (line_of branch rule premises a b) →
     IsReady lemmas goal old branch → AreOfOneSort old.terms.nodes a b → All (IsUsable old branch) premises →
-    ((literal : Option Claim) → Says lemmas goal old.terms.nodes literal rule (claims_at old.lines premises) (Same a b)) →
+    ((literal : Option Claim) → LinesAllow lemmas goal old.terms.nodes old.lines literal rule premises (Same a b)) →
     Appends lemmas goal old new branch
 put_appends stay next lemmas goal old new branch rule premises a b is ready formed usable says =
     let line : Line = line_of branch rule premises a b in

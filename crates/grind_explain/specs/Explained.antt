@@ -5,9 +5,9 @@ use Rattle.std.specs.Option.{IsSomeAnd}
 use Rattle.grind_term_graph.specs.declared.node.Node.{Node}
 use Rattle.grind_schemes.specs.Goals.{GoalData}
 use Rattle.grind_schemes.specs.declared.lemmas.Lemmas.{Lemmas}
-use Rattle.grind_proof_kernel.specs.declared.claim.Claim.TheVariants.{Same}
-use Rattle.grind_proof_kernel.specs.declared.proof.Line.{Line}
-use Rattle.grind_proof_kernel.specs.declared.proof.Proof.{Proof}
+use Rattle.grind_claims.specs.declared.claim.Claim.TheVariants.{Same}
+use Rattle.grind_claims.specs.declared.proof.Line.{Line}
+use Rattle.grind_claims.specs.declared.proof.Proof.{Proof}
 use Rattle.grind_proof_kernel.specs.Typing.{HasTerms, IsBranch, Reaches, TypedLine}
 use Rattle.grind_congruence.specs.declared.edge.Edge.{Edge}
 use Rattle.grind_congruence.specs.Edges.{Joins}

@@ -1,9 +1,9 @@
 //! Lines that claim an equality, by the rules of equality.
 ghost use Rattle.std.specs.Prelude.{◌≡◌, ℕ, ◌<◌, ◌∷◌, [], All, IfOk, Option, length};
-ghost use Rattle.grind_proof_kernel.specs.declared.claim.Claim.{Claim as Fact};
-ghost use Rattle.grind_proof_kernel.specs.declared.claim.Claim.TheVariants.{Same};
-ghost use Rattle.grind_proof_kernel.specs.Claims.{AreOfOneSort, claims_at};
-ghost use Rattle.grind_proof_kernel.specs.Rules.{Says};
+ghost use Rattle.grind_claims.specs.declared.claim.Claim.{Claim as Fact};
+ghost use Rattle.grind_claims.specs.declared.claim.Claim.TheVariants.{Same};
+ghost use Rattle.grind_claims.specs.Claims.{AreOfOneSort};
+ghost use Rattle.grind_proof_kernel.specs.Typing.{LinesAllow};
 ghost use Rattle.grind_explain.specs.Explained.{IsReady, Tells, Appends, EndsWith};
 ghost use Rattle.grind_explain.specs.Deriving.{IsUsable};
 
@@ -30,7 +30,7 @@ pub(crate) fn put(
     requires formed { AreOfOneSort proof.old.terms.nodes a b }
     requires usable { All (IsUsable proof.old branch) premises }
     requires says { (literal : Option Fact)
-        → Says lemmas.now goal.now proof.old.terms.nodes literal rule (claims_at proof.old.lines premises) (Same a b) }
+        → LinesAllow lemmas.now goal.now proof.old.terms.nodes proof.old.lines literal rule premises (Same a b) }
     ensures appends { Appends lemmas.now goal.now proof.old proof.new branch }
     ensures ready { IsReady lemmas.now goal.now proof.new branch }
     ensures last { IfOk result (λ number. EndsWith proof.new branch number a b) }

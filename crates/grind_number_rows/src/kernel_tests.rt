@@ -6,7 +6,7 @@ use grind_outside::{List, Memory};
 use grind_proof_kernel::branches::reaches;
 use grind_proof_kernel::claim::is_formed;
 use grind_proof_kernel::table::is_table;
-use grind_proof_kernel::{Branch, Claim, Line, Rule};
+use grind_proof_kernel::{Branch, Claim};
 use grind_term_graph::{Args, Head, Node, NodeId, SortId, TermRefusal, TermTable};
 use std::alloc::Global;
 use std::test::Fail;
@@ -44,31 +44,19 @@ fn put_negation(
     Ok(id)
 }
 
-// One line of the root that claims this.
-fn line_of(alloc: Global, claim: Claim) -> Result<List<Line>, Memory> {
-    let mut lines = List::new(alloc);
-    lines.push(Line {
-        branch: 0,
-        rule: Rule::Negated,
-        premises: List::new(alloc),
-        claim,
-    })?;
-    Ok(lines)
-}
-
-// Whether the table of these free nodes gives the formula from the first line.
+// Whether the table of these free nodes gives the formula from the premise.
 fn gives(
     alloc: Global,
     terms: &TermTable,
     free: &[NodeId],
-    lines: &[Line],
+    premise: &Claim,
     formula: NodeId,
 ) -> Result<bool, Memory> {
     let claim = Claim::Holds(formula);
-    if lines.is_empty() || !is_formed(terms, &claim) {
+    if !is_formed(terms, &claim) {
         return Ok(false);
     }
-    let given = is_table(alloc, terms, free, lines, &[0], &claim)?;
+    let given = is_table(alloc, terms, free, &[premise], &claim)?;
     Ok(given)
 }
 
@@ -78,14 +66,14 @@ fn a_formula_follows_from_the_failing_negation(rt: HostRuntime) -> Result<(), Fa
     let mut terms = TermTable::new(alloc, 4)?;
     let formula = put_formula(alloc, &mut terms)?;
     let negation = put_negation(alloc, &mut terms, formula)?;
-    let failing = line_of(alloc, Claim::Fails(negation))?;
-    let holding = line_of(alloc, Claim::Holds(negation))?;
-    for (lines, free, want) in [
-        (failing.as_slice(), [formula].as_slice(), true),
-        (holding.as_slice(), [formula].as_slice(), false),
-        (failing.as_slice(), [formula, formula].as_slice(), false),
+    let failing = Claim::Fails(negation);
+    let holding = Claim::Holds(negation);
+    for (premise, free, want) in [
+        (&failing, [formula].as_slice(), true),
+        (&holding, [formula].as_slice(), false),
+        (&failing, [formula, formula].as_slice(), false),
     ] {
-        assert_eq!(rt; gives(alloc, &terms, free, lines, formula)?, want);
+        assert_eq!(rt; gives(alloc, &terms, free, premise, formula)?, want);
     }
     Ok(())
 }

@@ -3,7 +3,7 @@ use Rattle.std.proofs.Common.{◌++◌, length, take, drop, sym, ap, ◌∙◌}
 use Rattle.std.proofs.lemmas.List.{take-append-drop}
 use Rattle.std.proofs.Math.Seq.{take-append_seam}
 use Rattle.grind_schemes.specs.Goals.{GoalData}
-use Rattle.grind_proof_kernel.specs.declared.proof.Proof.{Proof}
+use Rattle.grind_claims.specs.declared.proof.Proof.{Proof}
 use Rattle.grind_proof_kernel.specs.Typing.{HasTerms}
 use Rattle.grind_par_check.specs.Lines.{BeginsWithTerms}
 

@@ -2,7 +2,7 @@
 use Rattle.std.proofs.Common.{◌≡◌, ℕ, ◌<◌, ◌≤◌, suc, zero, List, Some, None, ap, sym, ◌∙◌, arith, inl, inr}
 use Rattle.std.proofs.lemmas.Bool.{cases_order}
 use Rattle.std.specs.Prelude.{option_and_then}
-use Rattle.grind_proof_kernel.specs.declared.proof.Branch.{Branch}
+use Rattle.grind_claims.specs.declared.proof.Branch.{Branch}
 use Rattle.grind_proof_kernel.specs.Typing.{branch_above, parent_of, Reaches}
 
 -- where nothing stands above, nothing stands further above

@@ -3,11 +3,10 @@ use Rattle.std.proofs.Common.{◌≡◌, ℕ, Option, ◌≤◌, ◌++◌, List,
 use Rattle.std.specs.Prelude.{slice_get, option_and_then}
 use Rattle.std.specs.Option.{option_map}
 use Rattle.std.proofs.lemmas.List.Elements.{All-head, All-tail}
-use Rattle.grind_proof_kernel.specs.declared.proof.Branch.{Branch}
-use Rattle.grind_proof_kernel.specs.declared.proof.Line.{Line}
-use Rattle.grind_proof_kernel.specs.Claims.{claim_at, claims_at}
+use Rattle.grind_claims.specs.declared.proof.Branch.{Branch}
+use Rattle.grind_claims.specs.declared.proof.Line.{Line}
 use Rattle.grind_proof_kernel.specs.Typing.{IsBranch, parent_of, literal_of, branch_above, Reaches, Serves}
-use Rattle.grind_proof_kernel.proofs.Growth.{some_and_stays, some_and_then, field_is_still, field_stays, field_of_some, within_stays}
+use Rattle.grind_claims.proofs.Growth.{some_and_stays, some_and_then, field_is_still, field_stays, field_of_some, within_stays}
 
 -- a branch stays one
 pub is_branch_stays : (branches more : List Branch) (branch : ℕ) → IsBranch branches branch → IsBranch (branches ++ more) branch
@@ -57,14 +56,3 @@ serves_stays branches more_branches lines more i branch premise h =
       some_and_then P Q (slice_get (lines ++ more) premise)
           (λ line. reaches_stays branches more_branches line.branch branch) (some_and_stays P lines more premise h.1),
     )
-
--- the claims of lines that serve stay
-pub claims_stay : (branches : List Branch) (lines more : List Line) (i branch : ℕ) (premises : List ℕ) →
-    All (Serves branches lines i branch) premises → claims_at (lines ++ more) premises ≡ claims_at lines premises
-claims_stay branches lines more i branch [] h = refl
-claims_stay branches lines more i branch (p ∷ rest) h =
-    let here = All-head (Serves branches lines i branch) p rest h in
-    let get = λ (line : Line). line.claim in
-    let first = field_stays get lines more p (field_of_some get _ lines p here.1) in
-    let others = claims_stay branches lines more i branch rest (All-tail (Serves branches lines i branch) p rest h) in
-    ap (λ claim. claim ∷ claims_at (lines ++ more) rest) first ∙ ap (λ claims. claim_at lines p ∷ claims) others

@@ -1,15 +1,5 @@
-pub mod Premises
-pub mod RuleLemmas
-pub mod BoundLemmas
-pub mod CombineLemmas
-pub mod InstanceWalks
-pub mod Growth
-pub mod TableGrowth
-pub mod RuleGrowth
 pub mod BranchGrowth
 pub mod LawLemmas
+pub mod LineLemmas
 pub mod Ancestors
 pub mod Pairs
-pub mod TruthLemmas
-pub mod AssignmentLemmas
-pub mod FollowsLemmas

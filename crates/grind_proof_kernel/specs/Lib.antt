@@ -1,13 +1,4 @@
-pub mod Claims
-pub mod Tables
-pub mod Assignments
-pub mod Instances
-pub mod LinearRules
-pub mod PolyRules
-pub mod Rules
 pub mod Typing
 pub mod Judgement
 pub mod Laws
-pub mod RuleCases
-pub mod ArithmeticCases
 pub mod TypingCases

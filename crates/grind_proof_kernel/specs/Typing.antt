@@ -3,19 +3,21 @@ use Rattle.std.specs.Prelude.{◌≡◌, ◌==◌, ℕ, zero, suc, ◌+◌, ◌<
 use Rattle.std.specs.Option.{IsSomeAnd, option_map}
 use Rattle.grind_term_graph.specs.declared.node.Node.{Node}
 use Rattle.grind_schemes.specs.Goals.{GoalData}
+use Rattle.grind_schemes.specs.Instances.{BeginsWith}
 use Rattle.grind_schemes.specs.declared.lemmas.Lemmas.{Lemmas}
-use Rattle.grind_proof_kernel.specs.declared.claim.Claim.{Claim}
-use Rattle.grind_proof_kernel.specs.declared.claim.Claim.TheVariants.{Holds, Fails, Same, Differ, AtMost, Zero, Absurd}
-use Rattle.grind_proof_kernel.specs.declared.proof.Branch.{Branch}
-use Rattle.grind_proof_kernel.specs.declared.proof.Line.{Line}
-use Rattle.grind_proof_kernel.specs.declared.proof.Proof.{Proof}
-use Rattle.grind_differences.specs.Bounds.{opposite_form, HasOpposite}
-use Rattle.grind_proof_kernel.specs.Claims.{IsFormed, claims_at}
-use Rattle.grind_proof_kernel.specs.Rules.{Says}
+use Rattle.grind_claims.specs.declared.claim.Claim.{Claim}
+use Rattle.grind_claims.specs.declared.claim.Claim.TheVariants.{Absurd}
+use Rattle.grind_claims.specs.declared.proof.Branch.{Branch}
+use Rattle.grind_claims.specs.declared.proof.Line.{Line}
+use Rattle.grind_claims.specs.declared.proof.Proof.{Proof}
+use Rattle.grind_claims.specs.declared.proof.Rule.{Rule}
+use Rattle.grind_claims.specs.Claims.{IsFormed, AreClaimsAt}
+use Rattle.grind_claims.specs.Literals.{IsLiteral, AreOpposite}
+use Rattle.grind_rules.specs.Rules.{RuleAllows}
 
 -- the terms of the proof begin with those of the goal
 abbrev pub HasTerms : GoalData → Proof → Type 0
-HasTerms goal proof = (rest : List Node) × (proof.terms.nodes ≡ goal.terms.nodes ++ rest)
+HasTerms goal proof = BeginsWith goal.terms.nodes proof.terms.nodes
 
 -- the branch of that number: 0 is the root, and the listed ones count from 1
 abbrev pub branch_at : List Branch → ℕ → Option Branch
@@ -50,37 +52,21 @@ abbrev pub Serves : List Branch → List Line → ℕ → ℕ → ℕ → Type 0
 Serves branches lines i branch premise =
     (premise < i) × IsSomeAnd (slice_get lines premise) (λ (line : Line). Reaches branches line.branch branch)
 
+-- the rule allows the claim, in a branch that assumes the literal, from what the lines of these numbers claim
+abbrev pub LinesAllow : Lemmas → GoalData → List Node → List Line → Option Claim → Rule → List ℕ → Claim → Type 0
+LinesAllow lemmas goal nodes lines literal rule premises claim = (claims : List Claim)
+    × AreClaimsAt lines premises claims × RuleAllows lemmas goal nodes literal rule claims claim
+
 -- the line is typed as line i
 pub record IsTypedAs (lemmas : Lemmas) (goal : GoalData) (proof : Proof) (i : ℕ) (line : Line) : Type 0 where
   pub claim : IsFormed proof.terms.nodes line.claim
   pub branch : IsBranch proof.branches line.branch
   pub premises : All (Serves proof.branches proof.lines i line.branch) line.premises
-  pub rule : Says lemmas goal proof.terms.nodes (literal_of proof.branches line.branch) line.rule (claims_at proof.lines line.premises) line.claim
+  pub rule : LinesAllow lemmas goal proof.terms.nodes proof.lines (literal_of proof.branches line.branch) line.rule line.premises line.claim
 
 -- there is a line i, and it is typed
 abbrev pub TypedLine : Lemmas → GoalData → Proof → ℕ → Type 0
 TypedLine lemmas goal proof i = IsSomeAnd (slice_get proof.lines i) (IsTypedAs lemmas goal proof i)
-
--- a literal that a branch may assume: a formula holds, or fails, or a form that has an opposite is at most 0
-abbrev pub IsLiteral : Claim → Type 0
-IsLiteral (Holds n) = Unit {0}
-IsLiteral (Fails n) = Unit {0}
-IsLiteral (Same a b) = ⊥
-IsLiteral (Differ a b) = ⊥
-IsLiteral (AtMost form) = HasOpposite form
-IsLiteral (Zero poly) = ⊥
-IsLiteral Absurd = ⊥
-
--- the two literals are opposite: one says that a formula holds, the other that it fails; or one bounds a form, the other the
--- opposite form
-abbrev pub AreOpposite : Claim → Claim → Type 0
-AreOpposite (Holds n) other = other ≡ Fails n
-AreOpposite (Fails n) other = other ≡ Holds n
-AreOpposite (Same a b) other = ⊥
-AreOpposite (Differ a b) other = ⊥
-AreOpposite (AtMost form) other = other ≡ AtMost (opposite_form form)
-AreOpposite (Zero poly) other = ⊥
-AreOpposite Absurd other = ⊥
 
 -- where the lines of a branch may begin: the root at the first line
 abbrev pub begin_of : List Branch → ℕ → Option ℕ

@@ -1,5 +1,4 @@
--- Worked cases: a line that is typed and one that is not, and a claim that follows under an assignment and one that
--- does not.
+-- Worked cases: a line that is typed, and one that is not.
 use Rattle.std.specs.Prelude.{ℕ, Bool, false, List, [], ◌∷◌, Option, Some, IsSome, refl}
 use Rattle.std.proofs.Common.{lit<, inl, arith}
 use Rattle.std.proofs.lemmas.List.Elements.{All-nil, All-cons}
@@ -8,12 +7,11 @@ use Rattle.grind_term_graph.specs.declared.node.Node.{Node}
 use Rattle.grind_term_graph.specs.Terms.{prop}
 use Rattle.grind_schemes.specs.Goals.{GoalData, goal_data}
 use Rattle.grind_schemes.specs.declared.lemmas.Lemmas.{Lemmas}
-use Rattle.grind_proof_kernel.specs.declared.claim.Claim.{Claim}
-use Rattle.grind_proof_kernel.specs.declared.claim.Claim.TheVariants.{Holds, Fails, Absurd}
-use Rattle.grind_proof_kernel.specs.declared.proof.Line.{Line}
-use Rattle.grind_proof_kernel.specs.declared.proof.Proof.{Proof}
-use Rattle.grind_proof_kernel.specs.declared.proof.Rule.TheVariants as rules
-use Rattle.grind_proof_kernel.specs.Tables.{truth_of, premise_truth, Follows}
+use Rattle.grind_claims.specs.declared.claim.Claim.{Claim}
+use Rattle.grind_claims.specs.declared.claim.Claim.TheVariants.{Holds, Fails, Absurd}
+use Rattle.grind_claims.specs.declared.proof.Line.{Line}
+use Rattle.grind_claims.specs.declared.proof.Proof.{Proof}
+use Rattle.grind_claims.specs.declared.proof.Rule.TheVariants as rules
 use Rattle.grind_proof_kernel.specs.Typing.{Serves, TypedLine}
 
 -- `True`, `False`, the formula p of number 2, and its negation of number 3
@@ -52,7 +50,11 @@ clash_is_typed lemmas = record {
   claim = tt;
   branch = omega arith;
   premises = All-cons serves 0 (1 ∷ []) first_serves (All-cons serves 1 [] second_serves (All-nil serves));
-  rule = (refl, inl (Some (Holds 2), Some (Fails 2), inl refl, inl (2, refl, refl)));
+  rule = (
+    Holds 2 ∷ Fails 2 ∷ [],
+    (refl, (refl, tt)),
+    (refl, inl (Holds 2, Fails 2, inl refl, inl (2, refl, refl))),
+  );
 }
 
 -- a clash of line 0 and the line itself is not
@@ -60,22 +62,3 @@ pub clash_with_itself_is_not_typed : (lemmas : Lemmas) → TypedLine lemmas goal
 clash_with_itself_is_not_typed lemmas typed =
     let low = (typed.premises 1 0 (lit< tt)).0 in
     absurd (omega arith)
-
--- p is false
-abbrev truth : ℕ → Option Bool
-truth = truth_of nodes (2 ∷ []) (false ∷ [])
-
-abbrev has_truth : Option Claim → Type 0
-has_truth premise = IsSome (premise_truth truth premise)
-
--- where the negation of p fails, p holds, also where p is false
-pub follows_from_double_negation : Follows truth (Some (Fails 3) ∷ []) (Holds 2)
-follows_from_double_negation = record {
-  expressed = All-cons has_truth (Some (Fails 3)) [] refl (All-nil has_truth);
-  concluded = refl;
-  follows = λ held. let first = held 0 (Some Absurd) (lit< tt) in absurd cc;
-}
-
--- from nothing, p does not follow where p is false
-pub follows_not_from_nothing : Follows truth [] (Holds 2) → ⊥
-follows_not_from_nothing h = let held = h.follows (All-nil _) in absurd cc

@@ -1,16 +1,13 @@
 //! Branches: what they assume, which lines they may use, and which of them are as their places ask.
 ghost use Rattle.std.specs.Prelude.{IsTrue, ◌↔◌, ◌<◌, ◌≤◌, ◌+◌, ◌≡◌, ◌==◌, ℕ, Some, length, All, find, reverse, slice_get};
 ghost use Rattle.std.specs.Option.{IsSomeAnd, option_copied};
-ghost use Rattle.grind_proof_kernel.specs.declared.proof.Branch.{Branch as BranchData};
-ghost use Rattle.grind_proof_kernel.specs.declared.claim.Claim.TheVariants.{AtMost};
-ghost use Rattle.grind_differences.specs.Bounds.{opposite_form};
-ghost use Rattle.grind_proof_kernel.specs.Claims.{IsFormed};
-ghost use Rattle.grind_proof_kernel.specs.Typing.{branch_at, parent_of, literal_of, begin_of, Reaches, Serves, IsLiteral, AreOpposite, IsPairOf, IsParent, StandsBefore, StandsBehind, last_in, IsClosed, IsWhole, IsFirst, IsSecond, IsInPair, IsListed, IsGoodBranch};
+ghost use Rattle.grind_claims.specs.declared.proof.Branch.{Branch as BranchData};
+ghost use Rattle.grind_claims.specs.Claims.{IsFormed};
+ghost use Rattle.grind_proof_kernel.specs.Typing.{branch_at, parent_of, literal_of, begin_of, Reaches, Serves, IsPairOf, IsParent, StandsBefore, StandsBehind, last_in, IsClosed, IsWhole, IsFirst, IsSecond, IsInPair, IsListed, IsGoodBranch};
 
-use crate::claim::{Claim, is_formed};
-use crate::proof::{Branch, Line, Proof};
-use grind_differences::{has_opposite, is_opposite_form};
-use grind_linear_forms::Form;
+use grind_claims::claim::is_formed;
+use grind_claims::literals::{are_opposite, is_literal};
+use grind_claims::{Branch, Claim, Line, Proof};
 use grind_term_graph::TermTable;
 
 /// The branch of that number, where it is listed. The root, number 0, is not.
@@ -246,44 +243,4 @@ fn is_second(first: &Branch, it: &Branch) -> bool
     it.parent == first.parent
         && it.after == first.after
         && are_opposite(&first.literal, &it.literal)
-}
-
-/// Whether the claim is one that a branch may assume.
-fn is_literal(claim: &Claim) -> bool
-    ensures { IsTrue result ↔ IsLiteral claim.now }
-{
-    match claim {
-        Claim::Holds(_) => true,
-        Claim::Fails(_) => true,
-        Claim::Same(_, _) => false,
-        Claim::Differ(_, _) => false,
-        Claim::AtMost(form) => has_opposite(form),
-        Claim::Zero(_) => false,
-        Claim::Absurd => false,
-    }
-}
-
-/// Whether one of the claims says that a formula holds and the other that it fails, or the other bounds the opposite form.
-fn are_opposite(one: &Claim, other: &Claim) -> bool
-    ensures { IsTrue result ↔ AreOpposite one.now other.now }
-{
-    match one {
-        Claim::Holds(node) => matches!(other, Claim::Fails(failing) if failing == node),
-        Claim::Fails(node) => matches!(other, Claim::Holds(holding) if holding == node),
-        Claim::Same(_, _) => false,
-        Claim::Differ(_, _) => false,
-        Claim::AtMost(form) => bounds_opposite(form, other),
-        Claim::Zero(_) => false,
-        Claim::Absurd => false,
-    }
-}
-
-/// Whether the claim bounds the form that is opposite to this one.
-fn bounds_opposite(form: &Form, claim: &Claim) -> bool
-    ensures { IsTrue result ↔ (claim.now ≡ AtMost (opposite_form form.now)) }
-{
-    let Claim::AtMost(other) = claim else {
-        return false;
-    };
-    is_opposite_form(form, other)
 }

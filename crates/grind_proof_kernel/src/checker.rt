@@ -1,13 +1,14 @@
 //! The checker: which lines are typed, which proofs are, and one more line behind a proof.
-ghost use Rattle.std.specs.Prelude.{IsTrue, ◌↔◌, ◌<◌, ◌≡◌, ◌≤◌, ℕ, length, IfOk, OnOk, OnErr, MatchOption};
-ghost use Rattle.grind_proof_kernel.specs.Typing.{HasTerms, IsTypedAs, TypedLine, IsGoodBranch, appended};
+ghost use Rattle.std.specs.Prelude.{IsTrue, ◌↔◌, ◌<◌, ◌≡◌, ◌≤◌, ℕ, length, All, IfOk, OnOk, OnErr, MatchOption};
+ghost use Rattle.grind_claims.specs.Claims.{IsFormed, AreClaimsAt, claims_of};
+ghost use Rattle.grind_proof_kernel.specs.Typing.{HasTerms, IsTypedAs, TypedLine, LinesAllow, IsGoodBranch, literal_of, appended};
 ghost use Rattle.grind_proof_kernel.specs.Judgement.{HasGoodBranches, IsFirstBadBranch, IsRight};
 
 use crate::branches::{all_serve, is_good_branch, literal_of};
-use crate::claim::is_formed;
-use crate::proof::{Line, Proof};
-use crate::rules::says;
+use grind_claims::claim::is_formed;
+use grind_claims::{Claim, Line, Proof};
 use grind_outside::Memory;
+use grind_rules::{Setting, rule_allows};
 use grind_schemes::{Goal, Lemmas};
 use std::alloc::Global;
 
@@ -52,9 +53,48 @@ pub fn check_line(
     {
         return Ok(false);
     }
-    let literal = literal_of(branches, line.branch);
-    let said = says(alloc, lemmas, goal, &proof.terms, literal, lines, line)?;
-    Ok(said)
+    let allowed = is_allowed(alloc, lemmas, goal, proof, line)?;
+    Ok(allowed)
+}
+
+/// Whether the rule of a line of the proof allows what it claims. The claim is well formed, and the premises are lines.
+fn is_allowed(
+    alloc: Global,
+    lemmas: &Lemmas,
+    goal: &Goal,
+    proof: &Proof,
+    line: &Line,
+) -> Result<bool, Memory>
+    requires formed { IsFormed proof.now.terms.nodes line.now.claim }
+    requires premises { All (λ p. p < length proof.now.lines) line.now.premises }
+    ensures { IfOk result (λ yes. IsTrue yes ↔ LinesAllow lemmas.now goal.now proof.now.terms.nodes proof.now.lines
+        (literal_of proof.now.branches line.now.branch) line.now.rule line.now.premises line.now.claim) }
+{
+    let setting = Setting {
+        lemmas,
+        goal,
+        terms: &proof.terms,
+        literal: literal_of(proof.branches.as_slice(), line.branch),
+    };
+    let claims = claims_at(alloc, proof.lines.as_slice(), line.premises.as_slice())?;
+    let allowed = rule_allows(alloc, &setting, &line.rule, claims.as_slice(), &line.claim)?;
+    Ok(allowed)
+}
+
+/// What these lines claim, one by one.
+fn claims_at<'a>(
+    alloc: Global,
+    lines: &'a [Line],
+    premises: &[u32],
+) -> Result<Vec<&'a Claim>, Memory>
+    requires { All (λ p. p < length lines.now) premises.now }
+    ensures { IfOk result (λ claims. AreClaimsAt lines.now premises.now (claims_of claims.items)) }
+{
+    let mut claims: Vec<&'a Claim> = Vec::new(alloc);
+    for premise in premises {
+        claims.push(&lines[*premise as usize].claim)?;
+    }
+    Ok(claims)
 }
 
 /// Whether the proof is typed for this goal, with these theorems, and else the first bad branch or, where no branch

@@ -14,7 +14,7 @@ use Rattle.grind_term_graph.specs.Shape.{AreTwoAlike, IsShaped, IsTable}
 use Rattle.grind_schemes.specs.declared.goal.Constant.{Constant}
 use Rattle.grind_schemes.specs.Goals.{GoalData}
 use Rattle.grind_schemes.specs.Labels.{IsLabel}
-use Rattle.grind_proof_kernel.specs.declared.proof.Proof.{Proof}
+use Rattle.grind_claims.specs.declared.proof.Proof.{Proof}
 use Rattle.grind_signature.specs.Signatures.{Function, SignatureData, IsDeclaredAs, IsDeclared}
 use Rattle.grind_report.specs.Report.{Closed, TermFits, BranchFits, LineFits, IsShort, BlockFits}
 use Rattle.grind_report.specs.Naming.{constant_name, function_name, term_of_head, term_of, HeadNamed, HasTerm, raw_of}

@@ -7,12 +7,12 @@ use Rattle.std.proofs.lemmas.Slice.Eq.{bytes_eq-Decides}
 use Rattle.std.proofs.lemmas.List.Elements.{recursion_from_All}
 use Rattle.grind_linear_forms.specs.Forms.{FormData}
 use Rattle.grind_polynomials.specs.declared.poly.Term.{Term}
-use Rattle.grind_proof_kernel.specs.declared.claim.Claim.{Claim}
-use Rattle.grind_proof_kernel.specs.declared.claim.Claim.TheVariants as claims
-use Rattle.grind_proof_kernel.specs.declared.proof.Branch.{Branch}
-use Rattle.grind_proof_kernel.specs.declared.proof.Line.{Line}
-use Rattle.grind_proof_kernel.specs.declared.proof.Rule.{Rule}
-use Rattle.grind_proof_kernel.specs.declared.proof.Rule.TheVariants as rules_of
+use Rattle.grind_claims.specs.declared.claim.Claim.{Claim}
+use Rattle.grind_claims.specs.declared.claim.Claim.TheVariants as claims
+use Rattle.grind_claims.specs.declared.proof.Branch.{Branch}
+use Rattle.grind_claims.specs.declared.proof.Line.{Line}
+use Rattle.grind_claims.specs.declared.proof.Rule.{Rule}
+use Rattle.grind_claims.specs.declared.proof.Rule.TheVariants as rules_of
 use Rattle.grind_report.specs.Report.{RawTerm, RawProof, Block, Report, True, False, Const, Fun, Int, Not, And, Or, Implies, Eq, Le, Add, Neg, Mul, Closed, Unexplored, term_words, poly_words, rule_words, premise_words, claim_words, branch_words, line_words, indexed_lines, counted_lines, block_page, header_words, end_words, report_page, IsShort, IsWide, TermFits, PolyFits, RuleFits, FactorsFit, TakesPremises, ClaimFits, BranchFits, LineFits, ProofFits, BlockFits, ReportFits, ReportOf}
 use Rattle.grind_report.proofs.NumberSpelling.{first_is, rest_is, cancel, first_of, rest_of, number, number_back, numbers_back, same_number, no_colon, integer, integer_back, one_of, other_of, both_back, first_items, first_items-back}
 use Rattle.grind_report.proofs.FormSpelling.{form_from, form_back, poly_from, poly_back, same_combined, same_gathered}

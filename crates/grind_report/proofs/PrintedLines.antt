@@ -4,7 +4,7 @@ use Rattle.std.specs.Prelude.{codes}
 use Rattle.std.proofs.lemmas.List.{take_more, append-nil, length-take, length-map}
 use Rattle.std.proofs.lemmas.Grind.{flat_map-append}
 use Rattle.grind_schemes.specs.declared.goal.Constant.{Constant}
-use Rattle.grind_proof_kernel.specs.declared.proof.Proof.{Proof}
+use Rattle.grind_claims.specs.declared.proof.Proof.{Proof}
 use Rattle.grind_signature.specs.Signatures.{SignatureData}
 use Rattle.grind_report.specs.Naming.{term_of, node_words, raw_of}
 use Rattle.grind_report.specs.Report.{Closed, indexed_lines, counted_lines, line_bytes, spelled, term_words, branch_words, line_words, block_bytes}

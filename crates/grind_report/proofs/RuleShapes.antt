@@ -1,8 +1,8 @@
 -- Rules with factors among their premises, and rules without.
 use Rattle.std.proofs.Common.{◌≡◌, ℕ, List, [], map, decimal, ℤ, refl, sym, ap, ◌∙◌, arith}
 use Rattle.grind_polynomials.specs.declared.poly.Term.{Term}
-use Rattle.grind_proof_kernel.specs.declared.proof.Rule.{Rule}
-use Rattle.grind_proof_kernel.specs.declared.proof.Rule.TheVariants as rules_of
+use Rattle.grind_claims.specs.declared.proof.Rule.{Rule}
+use Rattle.grind_claims.specs.declared.proof.Rule.TheVariants as rules_of
 use Rattle.grind_report.specs.Report.{rule_words, premise_words}
 
 -- the rule without its factors, as it stands before the premises

@@ -12,12 +12,12 @@ use Rattle.grind_schemes.specs.Labels.{IsLabel}
 use Rattle.grind_linear_forms.specs.declared.form.Part.{Part}
 use Rattle.grind_linear_forms.specs.Forms.{FormData}
 use Rattle.grind_polynomials.specs.declared.poly.Term.{Term}
-use Rattle.grind_proof_kernel.specs.declared.claim.Claim.{Claim}
-use Rattle.grind_proof_kernel.specs.declared.claim.Claim.TheVariants as claims
-use Rattle.grind_proof_kernel.specs.declared.proof.Branch.{Branch}
-use Rattle.grind_proof_kernel.specs.declared.proof.Line.{Line}
-use Rattle.grind_proof_kernel.specs.declared.proof.Rule.{Rule}
-use Rattle.grind_proof_kernel.specs.declared.proof.Rule.TheVariants as rules_of
+use Rattle.grind_claims.specs.declared.claim.Claim.{Claim}
+use Rattle.grind_claims.specs.declared.claim.Claim.TheVariants as claims
+use Rattle.grind_claims.specs.declared.proof.Branch.{Branch}
+use Rattle.grind_claims.specs.declared.proof.Line.{Line}
+use Rattle.grind_claims.specs.declared.proof.Rule.{Rule}
+use Rattle.grind_claims.specs.declared.proof.Rule.TheVariants as rules_of
 use Rattle.grind_report.specs.Report.{RawTerm, Block, Report, True, False, Const, Fun, Int, Not, And, Or, Implies, Eq, Le, Add, Neg, Mul, Closed, Unexplored, term_words, part_words, form_words, monomial_words, poly_words, rule_words, paired, factor_first, factor_behind, premise_words, claim_words, branch_words, line_words, indexed_lines, counted_lines, block_page, end_words, report_page, IsShort, IsWide, TermFits, PartFits, FormFits, MonomialFits, PolyFits, RuleFits, FactorsFit, ClaimFits, BranchFits, LineFits, BlockFits, ReportFits}
 use Rattle.grind_report.proofs.RuleShapes.{Shape, plain, combined, gathered, shape}
 use Rattle.grind_report.proofs.Spelling.{IsSolid, IsSolidLine}

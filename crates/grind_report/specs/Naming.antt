@@ -6,7 +6,7 @@ use Rattle.grind_term_graph.specs.declared.head.Head.TheVariants as heads
 use Rattle.grind_term_graph.specs.declared.node.Node.{Node}
 use Rattle.grind_schemes.specs.declared.goal.Constant.{Constant}
 use Rattle.grind_signature.specs.Signatures.{Function, SignatureData}
-use Rattle.grind_proof_kernel.specs.declared.proof.Proof.{Proof}
+use Rattle.grind_claims.specs.declared.proof.Proof.{Proof}
 use Rattle.grind_report.specs.Report.{RawTerm, RawProof, True, False, Const, Fun, Int, Not, And, Or, Implies, Eq, Le, Add, Neg, Mul, term_words}
 
 -- the name of the constant of that number

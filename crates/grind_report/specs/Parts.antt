@@ -5,8 +5,8 @@ use Rattle.grind_term_graph.specs.declared.head.Head.{Head}
 use Rattle.grind_term_graph.specs.declared.head.Head.TheVariants as heads
 use Rattle.grind_schemes.specs.declared.goal.Constant.{Constant}
 use Rattle.grind_signature.specs.Signatures.{SignatureData}
-use Rattle.grind_proof_kernel.specs.declared.proof.Rule.{Rule}
-use Rattle.grind_proof_kernel.specs.declared.proof.Rule.TheVariants as rules
+use Rattle.grind_claims.specs.declared.proof.Rule.{Rule}
+use Rattle.grind_claims.specs.declared.proof.Rule.TheVariants as rules
 use Rattle.grind_report.specs.Naming.{constant_name, function_name}
 
 -- the word that a term begins with

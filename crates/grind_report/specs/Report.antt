@@ -7,12 +7,12 @@ use Rattle.grind_linear_forms.specs.declared.form.Part.{Part}
 use Rattle.grind_linear_forms.specs.Forms.{FormData, IsForm}
 use Rattle.grind_polynomials.specs.declared.poly.Term.{Term}
 use Rattle.grind_polynomials.specs.Polynomials.{IsPoly}
-use Rattle.grind_proof_kernel.specs.declared.claim.Claim.{Claim}
-use Rattle.grind_proof_kernel.specs.declared.claim.Claim.TheVariants as claims
-use Rattle.grind_proof_kernel.specs.declared.proof.Branch.{Branch}
-use Rattle.grind_proof_kernel.specs.declared.proof.Line.{Line}
-use Rattle.grind_proof_kernel.specs.declared.proof.Rule.{Rule}
-use Rattle.grind_proof_kernel.specs.declared.proof.Rule.TheVariants as rules
+use Rattle.grind_claims.specs.declared.claim.Claim.{Claim}
+use Rattle.grind_claims.specs.declared.claim.Claim.TheVariants as claims
+use Rattle.grind_claims.specs.declared.proof.Branch.{Branch}
+use Rattle.grind_claims.specs.declared.proof.Line.{Line}
+use Rattle.grind_claims.specs.declared.proof.Rule.{Rule}
+use Rattle.grind_claims.specs.declared.proof.Rule.TheVariants as rules
 
 -- a term as a report names it: by the names of constants and functions, by whole numbers, and by the indices of terms before it
 pub data RawTerm : Type 0 where

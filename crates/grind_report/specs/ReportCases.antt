@@ -4,9 +4,9 @@ use Rattle.std.specs.Fmt.{digits}
 use Rattle.std.proofs.Common.{lit<, inl, inr}
 use Rattle.grind_linear_forms.specs.Forms.{form_data, part_of, number_form}
 use Rattle.grind_polynomials.specs.Polynomials.{term_of}
-use Rattle.grind_proof_kernel.specs.declared.claim.Claim.TheVariants as claims
-use Rattle.grind_proof_kernel.specs.declared.proof.Line.{Line}
-use Rattle.grind_proof_kernel.specs.declared.proof.Rule.TheVariants as rules
+use Rattle.grind_claims.specs.declared.claim.Claim.TheVariants as claims
+use Rattle.grind_claims.specs.declared.proof.Line.{Line}
+use Rattle.grind_claims.specs.declared.proof.Rule.TheVariants as rules
 use Rattle.grind_report.specs.Report.{Block, True, False, Const, Fun, Int, Closed, Unexplored, term_words, line_words, line_bytes, block_bytes, BlockFits, LineFits, ClaimFits}
 
 -- a goal that nobody looked at is one line

@@ -7,9 +7,9 @@ use Rattle.grind_term_graph.specs.declared.node.Node.{Node}
 use Rattle.grind_term_graph.specs.Terms.{prop, sort_at}
 use Rattle.grind_term_graph.specs.Shape.{IsShaped, IsTable}
 use Rattle.grind_term_graph.proofs.Tables.{WellShaped-at}
-use Rattle.grind_proof_kernel.specs.declared.claim.Claim.{Claim}
-use Rattle.grind_proof_kernel.specs.declared.claim.Claim.TheVariants.{Same}
-use Rattle.grind_proof_kernel.specs.Rules.{IsCong, SayEqual}
+use Rattle.grind_claims.specs.declared.claim.Claim.{Claim}
+use Rattle.grind_claims.specs.declared.claim.Claim.TheVariants.{Same}
+use Rattle.grind_rules.specs.Rules.{IsCong, SayEqual}
 use Rattle.grind_value_tables.specs.Respects.{one, zero_value, IsTruthValue, Means, OfOne, OfTwo, Respects}
 use Rattle.grind_value_tables.specs.Truths.{ClaimTrue}
 use Rattle.grind_value_tables.proofs.Meanings.{PremisesHold, false≢one, claim_is, premise_is, means_of}
@@ -71,7 +71,7 @@ consed x y xs ys p q = cc
 
 module _ (v : ℕ → ℤ) where
   -- arguments of which premises say that they are equal, one by one, have the same values
-  equal_values : (xs ys : List ℕ) (premises : List (Option Claim)) → SayEqual xs ys premises → PremisesHold v premises
+  equal_values : (xs ys : List ℕ) (premises : List Claim) → SayEqual xs ys premises → PremisesHold v premises
       → map v xs ≡ map v ys
   equal_values [] [] [] say hold = refl
   equal_values [] [] (p ∷ ps) say hold = absurd say
@@ -82,14 +82,14 @@ module _ (v : ℕ → ℤ) where
       consed (v a) (v b) (map v xs) (map v ys) (premise_is v p (Same a b) say.0 hold.0) (equal_values xs ys ps say.1 hold.1)
 
 -- of no arguments there are no premises
-no_premises : (sort : ℕ → Option ℕ) (xs ys : List ℕ) (premises : List (Option Claim)) → SayEqual xs ys premises
+no_premises : (sort : ℕ → Option ℕ) (xs ys : List ℕ) (premises : List Claim) → SayEqual xs ys premises
     → map sort xs ≡ [] → premises ≡ []
 no_premises sort [] [] [] say e = refl
 no_premises sort [] [] (p ∷ ps) say e = absurd say
 no_premises sort [] (b ∷ ys) ps say e = absurd say
 no_premises sort (a ∷ xs) ys ps say e = absurd cc
 
-module _ (v : ℕ → ℤ) (premises : List (Option Claim)) (claim : Claim) (hold : PremisesHold v premises) (nodes : List Node)
+module _ (v : ℕ → ℤ) (premises : List Claim) (claim : Claim) (hold : PremisesHold v premises) (nodes : List Node)
     (respects : Respects nodes v) (table : IsTable [] nodes) where
   pub cong_sound : IsCong nodes premises claim → ClaimTrue v claim
   cong_sound rule =

@@ -15,13 +15,14 @@ use Rattle.grind_differences.specs.Bounds.{opposite_form}
 use Rattle.grind_differences.specs.Laws.{OppositesHaveTheirValues}
 use Rattle.grind_schemes.specs.Goals.{GoalData}
 use Rattle.grind_schemes.specs.declared.lemmas.Lemmas.{Lemmas}
-use Rattle.grind_proof_kernel.specs.declared.claim.Claim.{Claim}
-use Rattle.grind_proof_kernel.specs.declared.claim.Claim.TheVariants.{Holds, Fails, Same, Differ, AtMost, Zero, Absurd}
-use Rattle.grind_proof_kernel.specs.declared.proof.Branch.{Branch}
-use Rattle.grind_proof_kernel.specs.declared.proof.Line.{Line}
-use Rattle.grind_proof_kernel.specs.declared.proof.Proof.{Proof}
-use Rattle.grind_proof_kernel.specs.Claims.{IsFormed}
-use Rattle.grind_proof_kernel.specs.Typing.{IsLiteral, AreOpposite, IsParent, IsClosed, IsFirst, IsSecond, IsInPair, IsListed, IsGoodBranch, Typed, branch_at, parent_of}
+use Rattle.grind_claims.specs.declared.claim.Claim.{Claim}
+use Rattle.grind_claims.specs.declared.claim.Claim.TheVariants.{Holds, Fails, Same, Differ, AtMost, Zero, Absurd}
+use Rattle.grind_claims.specs.declared.proof.Branch.{Branch}
+use Rattle.grind_claims.specs.declared.proof.Line.{Line}
+use Rattle.grind_claims.specs.declared.proof.Proof.{Proof}
+use Rattle.grind_claims.specs.Claims.{IsFormed}
+use Rattle.grind_claims.specs.Literals.{IsLiteral, AreOpposite}
+use Rattle.grind_proof_kernel.specs.Typing.{IsParent, IsClosed, IsFirst, IsSecond, IsInPair, IsListed, IsGoodBranch, Typed, branch_at, parent_of}
 use Rattle.grind_value_tables.specs.Respects.{zero_value, Respects}
 use Rattle.grind_value_tables.specs.Truths.{ClaimTrue, AreTrue, InstancesTrue}
 use Rattle.grind_value_tables.specs.Laws.{AssumesTruth, IsTableFor, Sound, TypedIsTrue}

@@ -15,10 +15,10 @@ use Rattle.grind_linear_forms.specs.Values.{parts_value, form_value}
 use Rattle.grind_polynomials.specs.Values.{poly_value}
 use Rattle.grind_differences.specs.Bounds.{plus, IsWithinCut}
 use Rattle.grind_differences.specs.Differences.{difference, AreApartByReading}
-use Rattle.grind_proof_kernel.specs.declared.claim.Claim.{Claim}
-use Rattle.grind_proof_kernel.specs.declared.claim.Claim.TheVariants.{Holds, Fails, Same, Differ, AtMost, Zero, Absurd}
-use Rattle.grind_proof_kernel.specs.Claims.{IsFormed}
-use Rattle.grind_proof_kernel.specs.LinearRules.{IsRead, IsWrite, IsLine, taken, combined, IsCombine, IsPinch, IsStrict, IsBoundOver, KeepApart, IsApart, IsTooGreat}
+use Rattle.grind_claims.specs.declared.claim.Claim.{Claim}
+use Rattle.grind_claims.specs.declared.claim.Claim.TheVariants.{Holds, Fails, Same, Differ, AtMost, Zero, Absurd}
+use Rattle.grind_claims.specs.Claims.{IsFormed}
+use Rattle.grind_rules.specs.LinearRules.{IsRead, IsWrite, IsLine, taken, combined, IsCombine, IsPinch, IsStrict, IsBoundOver, KeepApart, IsApart, IsTooGreat}
 use Rattle.grind_value_tables.specs.Respects.{Respects}
 use Rattle.grind_value_tables.specs.Truths.{ClaimTrue}
 use Rattle.grind_value_tables.proofs.Meanings.{PremisesHold, chained, false≢one, false_unless, claim_is, premises_are, premise_is, formula_value}
@@ -82,30 +82,28 @@ lower_at_most x y p c d e f h k = omega (arith, linear)
 
 module _ (laws : ArithmeticLaws) (v : ℕ → ℤ) where
   -- what a premise gives a combination is at most 0, so often
-  taken_value : (factor : ℤ) (premise : Option Claim) (form : FormData) → taken factor premise ≡ Some form
-      → IfSome premise (ClaimTrue v) → (factor *ℤ form_value v form) ≤ℤ pos 0
-  taken_value (pos times) (Some (AtMost other)) form e h =
+  taken_value : (factor : ℤ) (premise : Claim) (form : FormData) → taken factor premise ≡ Some form
+      → ClaimTrue v premise → (factor *ℤ form_value v form) ≤ℤ pos 0
+  taken_value (pos times) (AtMost other) form e h =
       times_at_most times (form_value v form) (subst (λ f. form_value v f ≤ℤ pos 0) (same_Some other form e) h)
-  taken_value (negsuc times) (Some (AtMost other)) form e h = absurd (none-some form e)
-  taken_value (pos times) (Some (Zero poly)) form e h =
+  taken_value (negsuc times) (AtMost other) form e h = absurd (none-some form e)
+  taken_value (pos times) (Zero poly) form e h =
       times_none (pos times) (form_value v form) (poly_value v poly) (laws.forms_of_polys v poly form e) h
-  taken_value (negsuc times) (Some (Zero poly)) form e h =
+  taken_value (negsuc times) (Zero poly) form e h =
       times_none (negsuc times) (form_value v form) (poly_value v poly) (laws.forms_of_polys v poly form e) h
-  taken_value (pos times) (Some (Holds n)) form e h = absurd (none-some form e)
-  taken_value (negsuc times) (Some (Holds n)) form e h = absurd (none-some form e)
-  taken_value (pos times) (Some (Fails n)) form e h = absurd (none-some form e)
-  taken_value (negsuc times) (Some (Fails n)) form e h = absurd (none-some form e)
-  taken_value (pos times) (Some (Same a b)) form e h = absurd (none-some form e)
-  taken_value (negsuc times) (Some (Same a b)) form e h = absurd (none-some form e)
-  taken_value (pos times) (Some (Differ a b)) form e h = absurd (none-some form e)
-  taken_value (negsuc times) (Some (Differ a b)) form e h = absurd (none-some form e)
-  taken_value (pos times) (Some Absurd) form e h = absurd (none-some form e)
-  taken_value (negsuc times) (Some Absurd) form e h = absurd (none-some form e)
-  taken_value (pos times) None form e h = absurd (none-some form e)
-  taken_value (negsuc times) None form e h = absurd (none-some form e)
+  taken_value (pos times) (Holds n) form e h = absurd (none-some form e)
+  taken_value (negsuc times) (Holds n) form e h = absurd (none-some form e)
+  taken_value (pos times) (Fails n) form e h = absurd (none-some form e)
+  taken_value (negsuc times) (Fails n) form e h = absurd (none-some form e)
+  taken_value (pos times) (Same a b) form e h = absurd (none-some form e)
+  taken_value (negsuc times) (Same a b) form e h = absurd (none-some form e)
+  taken_value (pos times) (Differ a b) form e h = absurd (none-some form e)
+  taken_value (negsuc times) (Differ a b) form e h = absurd (none-some form e)
+  taken_value (pos times) Absurd form e h = absurd (none-some form e)
+  taken_value (negsuc times) Absurd form e h = absurd (none-some form e)
 
   -- where the premises hold, what they are added to stays at most 0
-  combined_value : (factors : List ℤ) (premises : List (Option Claim)) (sum whole : FormData)
+  combined_value : (factors : List ℤ) (premises : List Claim) (sum whole : FormData)
       → combined sum factors premises ≡ Some whole → PremisesHold v premises → form_value v sum ≤ℤ pos 0
       → form_value v whole ≤ℤ pos 0
   combined_value [] [] sum whole e hold h = subst (λ f. form_value v f ≤ℤ pos 0) (same_Some sum whole e) h
@@ -128,7 +126,7 @@ module _ (laws : ArithmeticLaws) (v : ℕ → ℤ) where
       let below = laws.cuts v sum within.0 divisor within.1 within.2 h in
       let lower = within.4 in omega (arith, linear)
 
-  module _ (premises : List (Option Claim)) (claim : Claim) (hold : PremisesHold v premises) where
+  module _ (premises : List Claim) (claim : Claim) (hold : PremisesHold v premises) where
     pub combine_sound : (divisor : ℤ) (factors : List ℤ) → IsCombine divisor factors premises claim → ClaimTrue v claim
     combine_sound divisor factors rule =
         let nothing : form_value v (number_form (pos 0)) ≤ℤ pos 0 = omega (arith, linear) in
@@ -148,7 +146,7 @@ module _ (laws : ArithmeticLaws) (v : ℕ → ℤ) where
             let value = comparison_value nodes v respects rule.0 compares.0 compares.1 compares.2 in
             at_most_from (form_value v rule.1) (v compares.0) (v compares.1)
             (value_of_difference compares.0 compares.1 rule.1 compares.3)
-            (value.0 (premises_are v premises (Some (Holds rule.0) ∷ []) h.0 hold).0)
+            (value.0 (premises_are v premises (Holds rule.0 ∷ []) h.0 hold).0)
         | inr h ↦
             let compares = h.1 in
             let value = comparison_value nodes v respects rule.0 compares.0 compares.1 compares.2 in
@@ -156,13 +154,13 @@ module _ (laws : ArithmeticLaws) (v : ℕ → ℤ) where
             over_from (form_value v rule.1) (form_value v base.0) (v compares.0) (v compares.1)
             (value_of_difference compares.1 compares.0 base.0 base.1) (plus_value v base.0 rule.1 (pos 1) base.2)
             (not_above (v compares.0) (v compares.1)
-            (λ under. false≢one (v rule.0) (premises_are v premises (Some (Fails rule.0) ∷ []) h.0 hold).0 (value.1 under)))
+            (λ under. false≢one (v rule.0) (premises_are v premises (Fails rule.0 ∷ []) h.0 hold).0 (value.1 under)))
       ])
 
       -- the claim is about a formula, which has 0 or 1
       pub write_sound : IsFormed nodes claim → IsWrite nodes premises claim → ClaimTrue v claim
       write_sound formed rule =
-          let bound : form_value v rule.1 ≤ℤ pos 0 = (premises_are v premises (Some (AtMost rule.1) ∷ []) rule.2 hold).0 in
+          let bound : form_value v rule.1 ≤ℤ pos 0 = (premises_are v premises (AtMost rule.1 ∷ []) rule.2 hold).0 in
           elim rule.3 [
             | inl h ↦
                 let compares = h.1 in
@@ -184,20 +182,20 @@ module _ (laws : ArithmeticLaws) (v : ℕ → ℤ) where
 
       pub line_sound : IsLine nodes premises claim → ClaimTrue v claim
       line_sound rule =
-          let h = premises_are v premises (Some (Same rule.0 rule.1) ∷ []) rule.3 hold in
+          let h = premises_are v premises (Same rule.0 rule.1 ∷ []) rule.3 hold in
           claim_is v claim (AtMost rule.2) rule.4
           (at_most_same (form_value v rule.2) (v rule.0) (v rule.1) (value_of_difference rule.0 rule.1 rule.2 rule.5) h.0)
 
       pub pinch_sound : IsPinch nodes premises claim → ClaimTrue v claim
       pinch_sound rule =
-          let h = premises_are v premises (Some (AtMost rule.2) ∷ Some (AtMost rule.3) ∷ []) rule.4 hold in
+          let h = premises_are v premises (AtMost rule.2 ∷ AtMost rule.3 ∷ []) rule.4 hold in
           claim_is v claim (Same rule.0 rule.1) rule.5
           (pinched (form_value v rule.2) (form_value v rule.3) (v rule.0) (v rule.1)
           (value_of_difference rule.0 rule.1 rule.2 rule.6) (value_of_difference rule.1 rule.0 rule.3 rule.7) h.0 h.1.0)
 
       pub strict_sound : IsStrict nodes premises claim → ClaimTrue v claim
       strict_sound rule =
-          let h = premises_are v premises (Some (Differ rule.0 rule.1) ∷ Some (AtMost rule.2) ∷ []) rule.3 hold in
+          let h = premises_are v premises (Differ rule.0 rule.1 ∷ AtMost rule.2 ∷ []) rule.3 hold in
           let below : form_value v rule.2 <ℤ pos 0 = elim rule.5 [
             | inl e ↦ below_zero (form_value v rule.2) (v rule.0) (v rule.1) (value_of_difference rule.0 rule.1 rule.2 e) h.0 h.1.0
             | inr e ↦ below_zero (form_value v rule.2) (v rule.1) (v rule.0) (value_of_difference rule.1 rule.0 rule.2 e)
@@ -214,7 +212,7 @@ module _ (laws : ArithmeticLaws) (v : ℕ → ℤ) where
           (ap (parts_value v) apart.2) (value_of_difference a b apart.0 apart.1) same)
 
       -- two terms whose difference and 1 is at most 0 have
-      apart_by_bound : (first : Option Claim) (a b : ℕ) → IfSome first (ClaimTrue v) → IsBoundOver nodes first a b → v a ≢ v b
+      apart_by_bound : (first : Claim) (a b : ℕ) → ClaimTrue v first → IsBoundOver nodes first a b → v a ≢ v b
       apart_by_bound first a b p bound same =
           let base = bound.2 in
           apart_from (form_value v bound.0) (form_value v base.0) (v a) (v b) (value_of_difference a b base.0 base.1)
@@ -227,7 +225,7 @@ module _ (laws : ArithmeticLaws) (v : ℕ → ℤ) where
           apart_by_bound bound.0 a b (premises_are v premises (bound.0 ∷ []) bound.1 hold).0 bound.2
       kept_apart a b (inr (inr along)) =
           let h = premises_are v premises
-          (Some (Differ along.0 along.1) ∷ Some (Same a along.0) ∷ Some (Same b along.1) ∷ []) along.2 hold in
+          (Differ along.0 along.1 ∷ Same a along.0 ∷ Same b along.1 ∷ []) along.2 hold in
           (λ same. h.0 (sym h.1.0 ∙ same ∙ h.1.1.0))
 
       pub apart_sound : IsApart nodes premises claim → ClaimTrue v claim
@@ -237,7 +235,7 @@ module _ (laws : ArithmeticLaws) (v : ℕ → ℤ) where
       ])
 
 -- a number over 0 is not at most 0
-pub not_too_great : (v : ℕ → ℤ) (first : Option Claim) → IfSome first (ClaimTrue v) → IsTooGreat first → ⊥
+pub not_too_great : (v : ℕ → ℤ) (first : Claim) → ClaimTrue v first → IsTooGreat first → ⊥
 not_too_great v first p h =
     let bound : form_value v h.0 ≤ℤ pos 0 = premise_is v first (AtMost h.0) h.1 p in
     let parts : parts_value v h.0.parts ≡ pos 0 = ap (parts_value v) h.2 in

@@ -8,15 +8,15 @@ use Rattle.grind_term_graph.specs.declared.head.Head.TheVariants as head
 use Rattle.grind_term_graph.specs.declared.node.Node.{Node}
 use Rattle.grind_term_graph.specs.Terms.{prop, sort_at}
 use Rattle.grind_term_graph.specs.Shape.{IsBegun}
-use Rattle.grind_proof_kernel.specs.declared.claim.Claim.{Claim}
-use Rattle.grind_proof_kernel.specs.Rules.{IsEquation, IsEquationOf, IsNumber}
+use Rattle.grind_claims.specs.declared.claim.Claim.{Claim}
+use Rattle.grind_rules.specs.Rules.{IsEquation, IsEquationOf, IsNumber}
 use Rattle.grind_value_tables.specs.Respects.{one, zero_value, IsTruthValue, Means, Respects}
 use Rattle.grind_value_tables.specs.Truths.{ClaimTrue}
 
--- the premises that are claims are true
-abbrev pub PremisesHold : (ℕ → ℤ) → List (Option Claim) → Type 0
+-- the premises are true
+abbrev pub PremisesHold : (ℕ → ℤ) → List Claim → Type 0
 PremisesHold v [] = Unit {0}
-PremisesHold v (premise ∷ premises) = IfSome premise (ClaimTrue v) × PremisesHold v premises
+PremisesHold v (premise ∷ premises) = ClaimTrue v premise × PremisesHold v premises
 
 -- nothing is both true and false
 pub false≢one : (z : ℤ) → z ≡ zero_value → z ≡ one → ⊥
@@ -44,11 +44,11 @@ module _ (v : ℕ → ℤ) where
   claim_is claim other e h = subst (ClaimTrue v) (sym e) h
 
   -- premises by their names
-  pub premises_are : (premises others : List (Option Claim)) → premises ≡ others → PremisesHold v premises → PremisesHold v others
+  pub premises_are : (premises others : List Claim) → premises ≡ others → PremisesHold v premises → PremisesHold v others
   premises_are premises others e h = subst (PremisesHold v) e h
 
-  pub premise_is : (premise : Option Claim) (claim : Claim) → premise ≡ Some claim → IfSome premise (ClaimTrue v) → ClaimTrue v claim
-  premise_is premise claim e h = let P : Option Claim → Type 0 = λ p. IfSome p (ClaimTrue v) in subst P e h
+  pub premise_is : (premise claim : Claim) → premise ≡ claim → ClaimTrue v premise → ClaimTrue v claim
+  premise_is premise claim e h = subst (ClaimTrue v) e h
 
 module _ (nodes : List Node) (v : ℕ → ℤ) (respects : Respects nodes v) where
   -- the value of a node by its head and its arguments

@@ -15,9 +15,9 @@ use Rattle.grind_polynomials.specs.Sums.{sum_product}
 use Rattle.grind_polynomials.specs.Values.{poly_value}
 use Rattle.grind_differences.specs.Differences.{poly_difference}
 use Rattle.grind_differences.specs.Equations.{multiple_poly}
-use Rattle.grind_proof_kernel.specs.declared.claim.Claim.{Claim}
-use Rattle.grind_proof_kernel.specs.declared.claim.Claim.TheVariants.{Holds, Fails, Same, Differ, AtMost, Zero, Absurd}
-use Rattle.grind_proof_kernel.specs.PolyRules.{IsPolyRule, IsEqual, zero_of, gathered, IsIdeal, IsFalseZero}
+use Rattle.grind_claims.specs.declared.claim.Claim.{Claim}
+use Rattle.grind_claims.specs.declared.claim.Claim.TheVariants.{Holds, Fails, Same, Differ, AtMost, Zero, Absurd}
+use Rattle.grind_rules.specs.PolyRules.{IsPolyRule, IsEqual, zero_of, gathered, IsIdeal, IsFalseZero}
 use Rattle.grind_value_tables.specs.Respects.{Respects}
 use Rattle.grind_value_tables.specs.Truths.{ClaimTrue}
 use Rattle.grind_value_tables.proofs.Meanings.{PremisesHold, chained, claim_is, premises_are, premise_is}
@@ -41,20 +41,19 @@ added_none x y p q e h k =
     let none = *ℤ-zero p in omega (arith, linear)
 
 -- a premise that is 0 has the value 0
-zero_value_of : (v : ℕ → ℤ) (premise : Option Claim) (poly : List Term) → zero_of premise ≡ Some poly
-    → IfSome premise (ClaimTrue v) → poly_value v poly ≡ pos 0
-zero_value_of v (Some (Zero other)) poly e h = subst (λ p. poly_value v p ≡ pos 0) (same_Some other poly e) h
-zero_value_of v (Some (Holds n)) poly e h = absurd (none-some poly e)
-zero_value_of v (Some (Fails n)) poly e h = absurd (none-some poly e)
-zero_value_of v (Some (Same a b)) poly e h = absurd (none-some poly e)
-zero_value_of v (Some (Differ a b)) poly e h = absurd (none-some poly e)
-zero_value_of v (Some (AtMost form)) poly e h = absurd (none-some poly e)
-zero_value_of v (Some Absurd) poly e h = absurd (none-some poly e)
-zero_value_of v None poly e h = absurd (none-some poly e)
+zero_value_of : (v : ℕ → ℤ) (premise : Claim) (poly : List Term) → zero_of premise ≡ Some poly
+    → ClaimTrue v premise → poly_value v poly ≡ pos 0
+zero_value_of v (Zero other) poly e h = subst (λ p. poly_value v p ≡ pos 0) (same_Some other poly e) h
+zero_value_of v (Holds n) poly e h = absurd (none-some poly e)
+zero_value_of v (Fails n) poly e h = absurd (none-some poly e)
+zero_value_of v (Same a b) poly e h = absurd (none-some poly e)
+zero_value_of v (Differ a b) poly e h = absurd (none-some poly e)
+zero_value_of v (AtMost form) poly e h = absurd (none-some poly e)
+zero_value_of v Absurd poly e h = absurd (none-some poly e)
 
 module _ (laws : ArithmeticLaws) (v : ℕ → ℤ) where
   -- where the premises hold, what they are added to stays 0
-  gathered_value : (factors : List (List Term)) (premises : List (Option Claim)) (sum whole : List Term)
+  gathered_value : (factors : List (List Term)) (premises : List Claim) (sum whole : List Term)
       → gathered sum factors premises ≡ Some whole → PremisesHold v premises → poly_value v sum ≡ pos 0
       → poly_value v whole ≡ pos 0
   gathered_value [] [] sum whole e hold h = subst (λ p. poly_value v p ≡ pos 0) (same_Some sum whole e) h
@@ -69,7 +68,7 @@ module _ (laws : ArithmeticLaws) (v : ℕ → ℤ) where
       (laws.poly_sums v sum factor one_more.0 next.0 (answer_is (sum_product sum factor one_more.0) next.0 one_more.2)) h
       (zero_value_of v premise one_more.0 one_more.1 hold.0))
 
-  module _ (premises : List (Option Claim)) (claim : Claim) (hold : PremisesHold v premises) where
+  module _ (premises : List Claim) (claim : Claim) (hold : PremisesHold v premises) where
     pub ideal_sound : (divisor : ℤ) (factors : List (List Term)) → IsIdeal divisor factors premises claim → ClaimTrue v claim
     ideal_sound divisor factors rule =
         let whole = gathered_value factors premises [] (multiple_poly divisor rule.0) rule.3 hold refl in
@@ -84,18 +83,18 @@ module _ (laws : ArithmeticLaws) (v : ℕ → ℤ) where
 
       pub poly_sound : IsPolyRule nodes premises claim → ClaimTrue v claim
       poly_sound rule =
-          let h = premises_are v premises (Some (Same rule.0 rule.1) ∷ []) rule.3 hold in
+          let h = premises_are v premises (Same rule.0 rule.1 ∷ []) rule.3 hold in
           claim_is v claim (Zero rule.2) rule.4
           (none_from (poly_value v rule.2) (v rule.0) (v rule.1) (value_of_difference rule.0 rule.1 rule.2 rule.5) h.0)
 
       pub equal_sound : IsEqual nodes premises claim → ClaimTrue v claim
       equal_sound rule =
-          let h = premises_are v premises (Some (Zero rule.2) ∷ []) rule.3 hold in
+          let h = premises_are v premises (Zero rule.2 ∷ []) rule.3 hold in
           claim_is v claim (Same rule.0 rule.1) rule.4
           (same_from (poly_value v rule.2) (v rule.0) (v rule.1) (value_of_difference rule.0 rule.1 rule.2 rule.5) h.0)
 
 -- a number other than 0 is not 0
-pub not_false_zero : (v : ℕ → ℤ) (first : Option Claim) → IfSome first (ClaimTrue v) → IsFalseZero first → ⊥
+pub not_false_zero : (v : ℕ → ℤ) (first : Claim) → ClaimTrue v first → IsFalseZero first → ⊥
 not_false_zero v first p h =
     let is_zero : poly_value v h.0 ≡ pos 0 = premise_is v first (Zero h.0) h.1 p in
     let other = h.2 in

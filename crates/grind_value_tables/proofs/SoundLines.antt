@@ -1,22 +1,22 @@
 -- Each line of typed lines claims what is true, where all that its branch assumes is.
 use Rattle.std.specs.Prelude.{◌≡◌, ℕ, zero, suc, ◌<◌, List, [], ◌∷◌, Option, Some, IfSome, All, slice_get, ℤ, refl}
 use Rattle.std.specs.Option.{IsSomeAnd, option_map}
-use Rattle.std.proofs.Common.{arith, sym, ap, subst}
+use Rattle.std.proofs.Common.{arith, sym, ap, ◌∙◌, subst}
 use Rattle.std.proofs.lemmas.List.Elements.{All-head, All-tail}
-use Rattle.std.proofs.lemmas.Option.{slice_get_within}
+use Rattle.std.proofs.lemmas.Option.{slice_get_within, same_Some}
 use Rattle.grind_term_graph.specs.declared.node.Node.{Node}
 use Rattle.grind_term_graph.specs.Shape.{IsTermTable}
 use Rattle.grind_schemes.specs.Goals.{GoalData}
 use Rattle.grind_schemes.specs.declared.lemmas.Lemmas.{Lemmas}
-use Rattle.grind_proof_kernel.specs.declared.claim.Claim.{Claim}
-use Rattle.grind_proof_kernel.specs.declared.claim.Claim.TheVariants.{Holds}
-use Rattle.grind_proof_kernel.specs.declared.proof.Branch.{Branch}
-use Rattle.grind_proof_kernel.specs.declared.proof.Line.{Line}
-use Rattle.grind_proof_kernel.specs.declared.proof.Proof.{Proof}
-use Rattle.grind_proof_kernel.specs.declared.proof.Rule.{Rule}
-use Rattle.grind_proof_kernel.specs.declared.proof.Rule.TheVariants as rules
-use Rattle.grind_proof_kernel.specs.Claims.{IsFormed, claim_at, claims_at}
-use Rattle.grind_proof_kernel.specs.Rules.{Says}
+use Rattle.grind_claims.specs.declared.claim.Claim.{Claim}
+use Rattle.grind_claims.specs.declared.claim.Claim.TheVariants.{Holds}
+use Rattle.grind_claims.specs.declared.proof.Branch.{Branch}
+use Rattle.grind_claims.specs.declared.proof.Line.{Line}
+use Rattle.grind_claims.specs.declared.proof.Proof.{Proof}
+use Rattle.grind_claims.specs.declared.proof.Rule.{Rule}
+use Rattle.grind_claims.specs.declared.proof.Rule.TheVariants as rules
+use Rattle.grind_claims.specs.Claims.{IsFormed, claim_at, AreClaimsAt}
+use Rattle.grind_rules.specs.Rules.{RuleAllows}
 use Rattle.grind_proof_kernel.specs.Typing.{Reaches, Serves, IsTypedAs, literal_of}
 use Rattle.grind_value_tables.specs.Respects.{one, zero_value, Respects}
 use Rattle.grind_value_tables.specs.Truths.{ClaimTrue, AreTrue, InstancesTrue, IsByInst}
@@ -33,70 +33,72 @@ use Rattle.grind_value_tables.proofs.Ancestors.{assumes_above}
 
 module _ (laws : ArithmeticLaws) (goal : GoalData) (nodes : List Node) (limit : ℕ) (v : ℕ → ℤ) (table : IsTermTable nodes limit)
     (lemmas : Lemmas) (respects : Respects nodes v) (hyps : AreTrue v goal.hyps) (show : v goal.show ≡ zero_value) where
-  -- each rule lets a line claim what is true
-  pub says_sound : (rule : Rule) (literal : Option Claim) (premises : List (Option Claim)) (claim : Claim)
+  -- each rule allows what is true
+  pub allowed_sound : (rule : Rule) (literal : Option Claim) (premises : List Claim) (claim : Claim)
       → ((n : ℕ) → IsByInst rule → claim ≡ Holds n → v n ≡ one) → IsFormed nodes claim → ((it : Claim) → literal ≡ Some it → ClaimTrue v it) → PremisesHold v premises
-      → Says lemmas goal nodes literal rule premises claim → ClaimTrue v claim
-  says_sound (rules.Hyp i) literal premises claim listed formed assumed hold says = hyp_sound goal v premises claim i hyps says
-  says_sound rules.Negated literal premises claim listed formed assumed hold says = negated_sound goal v premises claim show says
-  says_sound (rules.Inst t ids) literal premises claim listed formed assumed hold says =
+      → RuleAllows lemmas goal nodes literal rule premises claim → ClaimTrue v claim
+  allowed_sound (rules.Hyp i) literal premises claim listed formed assumed hold says = hyp_sound goal v premises claim i hyps says
+  allowed_sound rules.Negated literal premises claim listed formed assumed hold says = negated_sound goal v premises claim show says
+  allowed_sound (rules.Inst t ids) literal premises claim listed formed assumed hold says =
       claim_is v claim (Holds says.0) says.3 (listed says.0 (t, ids, refl) says.3)
-  says_sound rules.Branch literal premises claim listed formed assumed hold says =
+  allowed_sound rules.Branch literal premises claim listed formed assumed hold says =
       branch_sound goal v premises claim literal assumed says
-  says_sound rules.Refl literal premises claim listed formed assumed hold says = refl_sound v premises claim hold says
-  says_sound rules.Sym literal premises claim listed formed assumed hold says = sym_sound v premises claim hold says
-  says_sound rules.Trans literal premises claim listed formed assumed hold says = trans_sound v premises claim hold says
-  says_sound rules.Cong literal premises claim listed formed assumed hold says =
+  allowed_sound rules.Refl literal premises claim listed formed assumed hold says = refl_sound v premises claim hold says
+  allowed_sound rules.Sym literal premises claim listed formed assumed hold says = sym_sound v premises claim hold says
+  allowed_sound rules.Trans literal premises claim listed formed assumed hold says = trans_sound v premises claim hold says
+  allowed_sound rules.Cong literal premises claim listed formed assumed hold says =
       cong_sound v premises claim hold nodes respects table.0 says
-  says_sound rules.Eq literal premises claim listed formed assumed hold says = eq_sound v premises claim hold nodes respects says
-  says_sound rules.Back literal premises claim listed formed assumed hold says =
+  allowed_sound rules.Eq literal premises claim listed formed assumed hold says = eq_sound v premises claim hold nodes respects says
+  allowed_sound rules.Back literal premises claim listed formed assumed hold says =
       back_sound v premises claim hold nodes respects formed says
-  says_sound rules.Truth literal premises claim listed formed assumed hold says =
+  allowed_sound rules.Truth literal premises claim listed formed assumed hold says =
       truth_sound v premises claim hold nodes respects table.1 says
-  says_sound rules.Untruth literal premises claim listed formed assumed hold says =
+  allowed_sound rules.Untruth literal premises claim listed formed assumed hold says =
       untruth_sound v premises claim hold nodes respects table.1 says
-  says_sound (rules.Table free) literal premises claim listed formed assumed hold says =
+  allowed_sound (rules.Table free) literal premises claim listed formed assumed hold says =
       table_sound v premises claim hold nodes respects table.0 free says
-  says_sound rules.Read literal premises claim listed formed assumed hold says =
+  allowed_sound rules.Read literal premises claim listed formed assumed hold says =
       read_sound laws v premises claim hold nodes respects says
-  says_sound rules.Write literal premises claim listed formed assumed hold says =
+  allowed_sound rules.Write literal premises claim listed formed assumed hold says =
       write_sound laws v premises claim hold nodes respects formed says
-  says_sound rules.Line literal premises claim listed formed assumed hold says =
+  allowed_sound rules.Line literal premises claim listed formed assumed hold says =
       line_sound laws v premises claim hold nodes respects says
-  says_sound rules.Poly literal premises claim listed formed assumed hold says =
+  allowed_sound rules.Poly literal premises claim listed formed assumed hold says =
       poly_sound laws v premises claim hold nodes respects says
-  says_sound (rules.Combine divisor factors) literal premises claim listed formed assumed hold says =
+  allowed_sound (rules.Combine divisor factors) literal premises claim listed formed assumed hold says =
       combine_sound laws v premises claim hold divisor factors says
-  says_sound rules.Pinch literal premises claim listed formed assumed hold says =
+  allowed_sound rules.Pinch literal premises claim listed formed assumed hold says =
       pinch_sound laws v premises claim hold nodes respects says
-  says_sound rules.Strict literal premises claim listed formed assumed hold says =
+  allowed_sound rules.Strict literal premises claim listed formed assumed hold says =
       strict_sound laws v premises claim hold nodes respects says
-  says_sound rules.Apart literal premises claim listed formed assumed hold says =
+  allowed_sound rules.Apart literal premises claim listed formed assumed hold says =
       apart_sound laws v premises claim hold nodes respects says
-  says_sound (rules.Ideal divisor factors) literal premises claim listed formed assumed hold says =
+  allowed_sound (rules.Ideal divisor factors) literal premises claim listed formed assumed hold says =
       ideal_sound laws v premises claim hold divisor factors says
-  says_sound rules.Equal literal premises claim listed formed assumed hold says =
+  allowed_sound rules.Equal literal premises claim listed formed assumed hold says =
       equal_sound laws v premises claim hold nodes respects says
-  says_sound rules.Clash literal premises claim listed formed assumed hold says =
+  allowed_sound rules.Clash literal premises claim listed formed assumed hold says =
       clash_sound v premises claim hold nodes respects table.1 says
 
 -- where each line before line i claims what is true if its branch assumes that, so do the premises of line i
 module _ (v : ℕ → ℤ) (branches : List Branch) (lines : List Line) (i branch : ℕ)
     (before : (j : ℕ) (line : Line) → j < i → slice_get lines j ≡ Some line → AssumesTruth v branches line.branch
     → ClaimTrue v line.claim) (assumes : AssumesTruth v branches branch) where
-  premise_holds : (j : ℕ) → Serves branches lines i branch j → IfSome (claim_at lines j) (ClaimTrue v)
-  premise_holds j serves =
+  premise_holds : (j : ℕ) (claim : Claim) → Serves branches lines i branch j → claim_at lines j ≡ Some claim → ClaimTrue v claim
+  premise_holds j claim serves claimed =
       let it = IsSomeAnd-item (slice_get lines j) (λ (line : Line). Reaches branches line.branch branch) serves.1 in
       let holds = before j it.0 serves.0 it.1 (assumes_above branches v it.2.0 branch it.0.branch it.2.2 assumes) in
-      let is : claim_at lines j ≡ Some it.0.claim = ap (option_map (λ (line : Line). line.claim)) it.1 in
-      let P : Option Claim → Type 0 = λ p. IfSome p (ClaimTrue v) in subst P (sym is) holds
+      let is : Some it.0.claim ≡ Some claim = sym (ap (option_map (λ (line : Line). line.claim)) it.1) ∙ claimed in
+      subst (ClaimTrue v) (same_Some it.0.claim claim is) holds
 
-  pub premises_hold : (numbers : List ℕ) → All (Serves branches lines i branch) numbers
-      → PremisesHold v (claims_at lines numbers)
-  premises_hold [] serve = tt
-  premises_hold (j ∷ numbers) serve = (
-    premise_holds j (All-head (Serves branches lines i branch) j numbers serve),
-    premises_hold numbers (All-tail (Serves branches lines i branch) j numbers serve),
+  pub premises_hold : (numbers : List ℕ) (claims : List Claim) → AreClaimsAt lines numbers claims
+      → All (Serves branches lines i branch) numbers → PremisesHold v claims
+  premises_hold [] [] are serve = tt
+  premises_hold [] (claim ∷ claims) are serve = absurd are
+  premises_hold (j ∷ numbers) [] are serve = absurd are
+  premises_hold (j ∷ numbers) (claim ∷ claims) are serve = (
+    premise_holds j claim (All-head (Serves branches lines i branch) j numbers serve) are.0,
+    premises_hold numbers claims are.1 (All-tail (Serves branches lines i branch) j numbers serve),
   )
 
 module _ (laws : ArithmeticLaws) (lemmas : Lemmas) (goal : GoalData) (proof : Proof) (v : ℕ → ℤ) (values : IsTableFor goal proof v)
@@ -108,8 +110,8 @@ module _ (laws : ArithmeticLaws) (lemmas : Lemmas) (goal : GoalData) (proof : Pr
   sound_below (suc count) i line below is assumes =
       let it = IsSomeAnd-at (slice_get proof.lines i) (IsTypedAs lemmas goal proof i) line is
       (typed i (slice_get_within proof.lines i line is)) in
-      says_sound laws goal proof.terms.nodes proof.terms.limit v values.table lemmas values.respects hyps show line.rule
-      (literal_of proof.branches line.branch) (claims_at proof.lines line.premises) line.claim
+      allowed_sound laws goal proof.terms.nodes proof.terms.limit v values.table lemmas values.respects hyps show line.rule
+      (literal_of proof.branches line.branch) it.rule.0 line.claim
       (λ n by_inst holds. instances n (
         i,
         subst (λ (o : Option Line). IsSomeAnd o
@@ -117,7 +119,7 @@ module _ (laws : ArithmeticLaws) (lemmas : Lemmas) (goal : GoalData) (proof : Pr
       )) it.claim
       (λ literal e. assumes 0 line.branch literal refl e)
       (premises_hold v proof.branches proof.lines i line.branch
-      (λ j other earlier. sound_below count j other (omega arith)) assumes line.premises it.premises) it.rule
+      (λ j other earlier. sound_below count j other (omega arith)) assumes line.premises it.rule.0 it.rule.1 it.premises) it.rule.2
 
   pub sound_line : (i : ℕ) (line : Line) → slice_get proof.lines i ≡ Some line → AssumesTruth v proof.branches line.branch
       → ClaimTrue v line.claim

@@ -16,9 +16,9 @@ use Rattle.grind_term_graph.specs.declared.node.Node.{Node}
 use Rattle.grind_term_graph.specs.Terms.{prop, sort_at}
 use Rattle.grind_term_graph.specs.Shape.{IsShaped, IsTable}
 use Rattle.grind_term_graph.proofs.Tables.{WellShaped-at}
-use Rattle.grind_proof_kernel.specs.declared.claim.Claim.{Claim}
-use Rattle.grind_proof_kernel.specs.declared.claim.Claim.TheVariants.{Holds, Fails, Same, Differ, AtMost, Zero, Absurd}
-use Rattle.grind_proof_kernel.specs.Tables.{free_truth, of_one, of_two, implies, alike, joined_truth, truth_at, node_truth, truths_of, truth_of, premise_truth, conclusion_truth, IsTable as IsTableRule}
+use Rattle.grind_claims.specs.declared.claim.Claim.{Claim}
+use Rattle.grind_claims.specs.declared.claim.Claim.TheVariants.{Holds, Fails, Same, Differ, AtMost, Zero, Absurd}
+use Rattle.grind_rules.specs.Tables.{free_truth, of_one, of_two, implies, alike, joined_truth, truth_at, node_truth, truths_of, truth_of, literal_truth, conclusion_truth, IsTableRule}
 use Rattle.grind_value_tables.specs.Respects.{one, zero_value, IsTruthValue, Means, OfOne, OfTwo, Respects}
 use Rattle.grind_value_tables.specs.Truths.{ClaimTrue}
 use Rattle.grind_value_tables.proofs.Meanings.{PremisesHold, false≢one, false_unless, formula_value}
@@ -233,24 +233,23 @@ module _ (v : ℕ → ℤ) where
   failing n (Some false) agree e = agree false refl
 
   module _ (truth : ℕ → Option Bool) (agree : (n : ℕ) (it : Bool) → truth n ≡ Some it → v n ≡ bit it) where
-    premise_true : (premise : Option Claim) → IsSome (premise_truth truth premise) → IfSome premise (ClaimTrue v)
-        → premise_truth truth premise ≡ Some true
-    premise_true None some hold = absurd (false≢true some)
-    premise_true (Some (Holds n)) some hold = held n (truth n) (agree n) some hold
-    premise_true (Some (Fails n)) some hold = failed n (truth n) (agree n) some hold
-    premise_true (Some (Same a b)) some hold = absurd (false≢true some)
-    premise_true (Some (Differ a b)) some hold = absurd (false≢true some)
-    premise_true (Some (AtMost form)) some hold = absurd (false≢true some)
-    premise_true (Some (Zero poly)) some hold = absurd (false≢true some)
-    premise_true (Some Absurd) some hold = absurd (false≢true some)
+    premise_true : (premise : Claim) → IsSome (literal_truth truth premise) → ClaimTrue v premise
+        → literal_truth truth premise ≡ Some true
+    premise_true (Holds n) some hold = held n (truth n) (agree n) some hold
+    premise_true (Fails n) some hold = failed n (truth n) (agree n) some hold
+    premise_true (Same a b) some hold = absurd (false≢true some)
+    premise_true (Differ a b) some hold = absurd (false≢true some)
+    premise_true (AtMost form) some hold = absurd (false≢true some)
+    premise_true (Zero poly) some hold = absurd (false≢true some)
+    premise_true Absurd some hold = absurd (false≢true some)
 
-    premises_true : (premises : List (Option Claim)) → All (λ (p : Option Claim). IsSome (premise_truth truth p)) premises
-        → PremisesHold v premises → All (λ (p : Option Claim). premise_truth truth p ≡ Some true) premises
-    premises_true [] some hold = All-nil (λ (p : Option Claim). premise_truth truth p ≡ Some true)
+    premises_true : (premises : List Claim) → All (λ (p : Claim). IsSome (literal_truth truth p)) premises
+        → PremisesHold v premises → All (λ (p : Claim). literal_truth truth p ≡ Some true) premises
+    premises_true [] some hold = All-nil (λ (p : Claim). literal_truth truth p ≡ Some true)
     premises_true (p ∷ ps) some hold =
-        All-cons (λ (q : Option Claim). premise_truth truth q ≡ Some true) p ps
-        (premise_true p (All-head (λ (q : Option Claim). IsSome (premise_truth truth q)) p ps some) hold.0)
-        (premises_true ps (All-tail (λ (q : Option Claim). IsSome (premise_truth truth q)) p ps some) hold.1)
+        All-cons (λ (q : Claim). literal_truth truth q ≡ Some true) p ps
+        (premise_true p (All-head (λ (q : Claim). IsSome (literal_truth truth q)) p ps some) hold.0)
+        (premises_true ps (All-tail (λ (q : Claim). IsSome (literal_truth truth q)) p ps some) hold.1)
 
     conclusion_true : (claim : Claim) → conclusion_truth truth claim ≡ Some true → ClaimTrue v claim
     conclusion_true (Holds n) e = agree n true e
@@ -261,7 +260,7 @@ module _ (v : ℕ → ℤ) where
     conclusion_true (Zero poly) e = absurd (none-some true e)
     conclusion_true Absurd e = absurd (false≢true (same_Some false true e))
 
-module _ (v : ℕ → ℤ) (premises : List (Option Claim)) (claim : Claim) (hold : PremisesHold v premises) (nodes : List Node)
+module _ (v : ℕ → ℤ) (premises : List Claim) (claim : Claim) (hold : PremisesHold v premises) (nodes : List Node)
     (respects : Respects nodes v) (table : IsTable [] nodes) where
   valued_at : (n : ℕ) (node : Node) → slice_get nodes n ≡ Some node → IsValued v (0 + n) node
   valued_at n node is =

@@ -5,7 +5,7 @@ use Rattle.grind_linear_forms.specs.Forms.{FormData, form_data, part_of, fit}
 use Rattle.grind_polynomials.specs.declared.poly.Term.{Term}
 use Rattle.grind_polynomials.specs.Polynomials.{term_of}
 use Rattle.std.specs.Int.Signed.{le_z_yes}
-use Rattle.grind_proof_kernel.specs.declared.claim.Claim.TheVariants.{AtMost, Zero}
+use Rattle.grind_claims.specs.declared.claim.Claim.TheVariants.{AtMost, Zero}
 use Rattle.grind_value_tables.specs.Truths.{ClaimTrue}
 use Rattle.grind_value_tables.specs.Evaluations.{form_sum, poly_sum}
 

@@ -3,10 +3,10 @@ use Rattle.std.specs.Prelude.{◌≡◌, ℕ, ◌<◌, List, Some, length, slice
 use Rattle.grind_term_graph.specs.Shape.{IsTermTable}
 use Rattle.grind_schemes.specs.Goals.{GoalData, IsGoal}
 use Rattle.grind_schemes.specs.declared.lemmas.Lemmas.{Lemmas}
-use Rattle.grind_proof_kernel.specs.declared.claim.Claim.{Claim}
-use Rattle.grind_proof_kernel.specs.declared.proof.Branch.{Branch}
-use Rattle.grind_proof_kernel.specs.declared.proof.Line.{Line}
-use Rattle.grind_proof_kernel.specs.declared.proof.Proof.{Proof}
+use Rattle.grind_claims.specs.declared.claim.Claim.{Claim}
+use Rattle.grind_claims.specs.declared.proof.Branch.{Branch}
+use Rattle.grind_claims.specs.declared.proof.Line.{Line}
+use Rattle.grind_claims.specs.declared.proof.Proof.{Proof}
 use Rattle.grind_proof_kernel.specs.Typing.{HasTerms, TypedLine, Typed, branch_above, literal_of}
 use Rattle.grind_value_tables.specs.Respects.{Respects, zero_value}
 use Rattle.grind_value_tables.specs.Truths.{ClaimTrue, AreTrue, InstancesTrue, GoalTrue}

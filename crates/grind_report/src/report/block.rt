@@ -4,7 +4,7 @@ ghost use Rattle.grind_schemes.specs.Labels.{IsLabel};
 ghost use Rattle.grind_schemes.specs.declared.goal.Constant.{Constant as GoalConstant};
 ghost use Rattle.grind_report.specs.Report.{spelled, line_bytes, counted_lines, branch_words, line_words, BranchFits, LineFits, TermFits, TakesPremises, block_bytes, Closed, Unexplored};
 ghost use Rattle.grind_report.specs.Naming.{node_words, term_of, raw_of, HasTerm};
-ghost use Rattle.grind_proof_kernel.specs.declared.proof.Line.{Line as ProofLine};
+ghost use Rattle.grind_claims.specs.declared.proof.Line.{Line as ProofLine};
 ghost use Rattle.grind_term_graph.specs.declared.node.Node.{Node as TermNode};
 
 use crate::report::{lines, terms, words};

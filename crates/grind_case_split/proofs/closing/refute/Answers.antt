@@ -1,6 +1,6 @@
 use Rattle.std.specs.Prelude.{Bool, Some}
 use Rattle.std.proofs.Common.{ap, ◌∙◌}
-use Rattle.grind_proof_kernel.specs.declared.claim.Claim.TheVariants.{Same, Differ}
+use Rattle.grind_claims.specs.declared.claim.Claim.TheVariants.{Same, Differ}
 use Rattle.grind_case_split.specs.Facts.{sides_claim}
 use Rattle.grind_case_split.specs.Writing.{Claims}
 use Rattle.grind_case_split.proofs.LineLemmas.{claims_within}
@@ -36,4 +36,4 @@ clash_line-requires-clause-clash c =
     let differ : Claims c.fact_line.new.proof c.in_ok-differ.differ (Differ c.args.fact.now.reading.left c.args.fact.now.reading.right) =
     c.in_ok-differ.ensures.claims
     ∙ ap (λ (same : Bool). Some (sides_claim same c.args.fact.now.reading.left c.args.fact.now.reading.right)) c.requires.refuted.differs in
-    split_clash c.args.goal.now.terms.nodes _ _ c.args.fact.now.reading.left c.args.fact.now.reading.right same differ
+    split_clash c.args.goal.now.terms.nodes c.fact_line.new.proof.lines c.in_ok-same.same c.in_ok-differ.differ c.args.fact.now.reading.left c.args.fact.now.reading.right same differ

@@ -1,12 +1,11 @@
-use Rattle.std.specs.Prelude.{◌≡◌, ◌∷◌, ◌++◌, [], ℕ, List, Option, Some, Bool, false, not}
+use Rattle.std.specs.Prelude.{◌≡◌, ◌∷◌, ◌++◌, [], ℕ, List, Bool, false, not}
 use Rattle.std.proofs.Common.{sym, ap, ◌∙◌, subst}
 use Rattle.grind_term_graph.specs.declared.node.Node.{Node}
 use Rattle.grind_term_graph.specs.Terms.{Terms}
 use Rattle.grind_term_graph.specs.Shape.{IsTable as IsNodeTable}
 use Rattle.grind_schemes.specs.Goals.{GoalData}
-use Rattle.grind_proof_kernel.specs.declared.claim.Claim.{Claim}
-use Rattle.grind_proof_kernel.specs.Claims.{claim_at}
-use Rattle.grind_proof_kernel.specs.Tables.{IsTable}
+use Rattle.grind_claims.specs.declared.claim.Claim.{Claim}
+use Rattle.grind_rules.specs.Tables.{IsTableRule}
 use Rattle.grind_case_split.specs.Facts.{literal, IsReadAs}
 use Rattle.grind_case_split.proofs.TableLemmas.{turned_table}
 use Rattle.grind_case_split.proofs.lines.turned_line.Goals as goal
@@ -20,11 +19,13 @@ put_next-requires-clause-says c =
     c.requires.negated c.requires.fact.reading in
     let same : c.goal.inside.terms ≡ c.args.goal.now.terms = ap (λ (g : GoalData). g.terms) c.goal.view_is in
     let table_of : IsNodeTable [] nodes = subst (λ (terms : Terms). IsNodeTable [] terms.nodes) same c.len-count.ensures.table in
-    let table : IsTable nodes (equation ∷ []) (Some (literal c.args.fact.now.holds c.args.fact.now.node) ∷ []) (literal (not c.args.fact.now.holds) equation) =
+    let table : IsTableRule nodes (equation ∷ []) (literal c.args.fact.now.holds c.args.fact.now.node ∷ []) (literal (not c.args.fact.now.holds) equation) =
     turned_table nodes equation c.args.fact.now.node c.args.fact.now.holds table_of read.0 c.requires.fact.sorted.formula in
-    let free : c.push.new.self ≡ equation ∷ [] = c.in_ok-push.ensures.ok ∙ ap (λ (l : List ℕ). l ++ equation ∷ []) c.new-free.ensures in
-    subst (λ (claim : Claim). IsTable nodes c.push.new.self (claim_at c.args.proof.now.lines c.args.said ∷ []) claim)
-    (sym c.literal_claim-claim.ensures)
-    (subst (λ (said : Option Claim). IsTable nodes c.push.new.self (said ∷ []) (literal (not c.args.fact.now.holds) equation)) (sym c.requires.said)
-    (subst (λ (all : List ℕ). IsTable nodes all (Some (literal c.args.fact.now.holds c.args.fact.now.node) ∷ []) (literal (not c.args.fact.now.holds) equation)) (sym free)
-    table))
+    let free : c.push.new.self ≡ equation ∷ [] = c.in_ok-push.ensures.ok ∙ ap (λ (l : List ℕ). l ++ equation ∷ []) c.new-free.ensures in (
+      literal c.args.fact.now.holds c.args.fact.now.node ∷ [],
+      (c.requires.said, tt),
+      subst (λ (claim : Claim). IsTableRule nodes c.push.new.self (literal c.args.fact.now.holds c.args.fact.now.node ∷ []) claim)
+          (sym c.literal_claim-claim.ensures)
+          (subst (λ (all : List ℕ). IsTableRule nodes all (literal c.args.fact.now.holds c.args.fact.now.node ∷ []) (literal (not c.args.fact.now.holds) equation))
+          (sym free) table),
+    )

@@ -1,6 +1,6 @@
 use Rattle.std.proofs.Common.{◌≡◌, ℕ, ◌<◌, ◌≤◌, slice_get}
 use Rattle.std.specs.Option.{IsSomeAnd}
-use Rattle.grind_proof_kernel.specs.declared.proof.Line.{Line}
+use Rattle.grind_claims.specs.declared.proof.Line.{Line}
 use Rattle.grind_proof_kernel.proofs.branches.stands_before.Given as goal
 
 -- no line so far, from that line on, is one of the branch

@@ -1,6 +1,6 @@
 use Rattle.std.proofs.Common.{◌≡◌, ◌+◌, ◌<◌, length, get_or, subst, ap, arith}
 use Rattle.std.proofs.lemmas.List.Elements.{All-more}
-use Rattle.grind_proof_kernel.specs.declared.proof.Branch.{Branch}
+use Rattle.grind_claims.specs.declared.proof.Branch.{Branch}
 use Rattle.grind_report.specs.Report.{branch_words, BranchFits}
 use Rattle.grind_report.proofs.PrintedLines.{next_line}
 use Rattle.grind_report.proofs.report.block.put_branches.Goals as goal

@@ -1,6 +1,6 @@
 use Rattle.std.proofs.Common.{◌≡◌, ◌<◌, length, get_or, subst, ap, arith}
 use Rattle.std.proofs.lemmas.List.Elements.{All-more}
-use Rattle.grind_proof_kernel.specs.declared.proof.Line.{Line}
+use Rattle.grind_claims.specs.declared.proof.Line.{Line}
 use Rattle.grind_report.specs.Report.{line_words, LineFits}
 use Rattle.grind_report.proofs.PrintedLines.{next_line}
 use Rattle.grind_report.proofs.report.block.put_lines.Goals as goal

@@ -1,0 +1,4 @@
+pub mod Claims
+pub mod Literals
+pub mod Copies
+pub mod Laws
