@@ -140,14 +140,14 @@ sides_are_typed known lists node premise claim fits table at =
     let sorts = equation_sorts known node a b table at.2 in
     elim at.3 [
       | inl join ↦ (
-        (node, a, b, at.2, inl (ap (λ (it : Claim). Some it ∷ []) join.1, join.2)),
+        (node, a, b, at.2, inl (ap (λ (it : Claim). it ∷ []) join.1, join.2)),
         record {
           given = one_given known lists premise (subst (λ (it : Claim). IsGiven known lists it) (sym join.1) join.0.holds);
           formed = subst (λ (it : Claim). IsFormed known.terms.nodes it) (sym join.2) (sorts.left, sorts.alike);
         },
       )
       | inr part ↦ (
-        (node, a, b, at.2, inr (ap (λ (it : Claim). Some it ∷ []) part.1, part.2)),
+        (node, a, b, at.2, inr (ap (λ (it : Claim). it ∷ []) part.1, part.2)),
         record {
           given = one_given known lists premise (subst (λ (it : Claim). IsGiven known lists it) (sym part.1) part.0.fails);
           formed = subst (λ (it : Claim). IsFormed known.terms.nodes it) (sym part.2) (sorts.left, sorts.alike);

@@ -17,7 +17,7 @@ use Rattle.grind_truth_prop.specs.Classed.{literal}
 use Rattle.grind_truth_prop.specs.Connectives.{AreTwo, JoinsTruths, IsConnective, Keeps, IsPossible, AreFreeNodes}
 use Rattle.grind_truth_prop.specs.Laws.{HasTable, SettledIsTyped, ContradictedIsTyped}
 use Rattle.grind_truth_prop.specs.declared.types.Known.{Known}
-use Rattle.grind_truth_prop.proofs.KernelLemmas.{free_truth, joined_truth, truth_of, conclusion_truth, premise_truth, Follows}
+use Rattle.grind_truth_prop.proofs.KernelLemmas.{free_truth, joined_truth, truth_of, conclusion_truth, literal_truth, Follows}
 use Rattle.grind_truth_prop.proofs.TermLemmas.{some_and, is_at, all_of, first_or_other, one_of_longer}
 use Rattle.grind_truth_prop.proofs.TableLemmas.{truth_in_free, no_truth_outside, truth_of_free, truth_at_node}
 use Rattle.grind_truth_prop.proofs.LawLemmas.{lower_at, connective_formula, formed_literal}
@@ -82,12 +82,6 @@ few_of (x ∷ y ∷ z ∷ rest) a b once among =
         | inr yb ↦ xy (xb ∙ sym yb)
       ]
     ])
-
-all_before : (P : Option Claim → Type 0) (claims : List Claim) → All P (map (λ (it : Claim). Some it) claims) → All (λ (it : Claim). P (Some it)) claims
-all_before P [] h = All-nil (λ (it : Claim). P (Some it))
-all_before P (claim ∷ claims) h =
-    All-cons (λ (it : Claim). P (Some it)) claim claims (All-head P (Some claim) (map (λ (it : Claim). Some it) claims) h)
-    (all_before P claims (All-tail P (Some claim) (map (λ (it : Claim). Some it) claims) h))
 
 is_given : (known : Known) (over : List ℕ) (lists : List (List ℕ)) (claim : Claim) → IsTruthAmong known over claim → IsGiven known lists claim
 is_given known over lists claim it = elim it.2 [
@@ -175,21 +169,21 @@ module _ (known : Known) (node : ℕ) (head : Head) (args free : List ℕ) (tabl
     ]
 
     -- a known truth among them has a truth
-    premise_given : (claim : Claim) → IsTruthAmong known (node ∷ args) claim → IsSome (premise_truth given (Some claim))
+    premise_given : (claim : Claim) → IsTruthAmong known (node ∷ args) claim → IsSome (literal_truth given claim)
     premise_given claim it = elim it.2 [
-      | inl holds ↦ subst (λ (c : Claim). IsSome (premise_truth given (Some c))) (sym holds.1)
+      | inl holds ↦ subst (λ (c : Claim). IsSome (literal_truth given c)) (sym holds.1)
           (subst (λ (o : Option Bool). IsSome o) (sym (at_each it.0 it.1)) refl)
-      | inr fails ↦ subst (λ (c : Claim). IsSome (premise_truth given (Some c))) (sym fails.1)
+      | inr fails ↦ subst (λ (c : Claim). IsSome (literal_truth given c)) (sym fails.1)
           (subst (λ (o : Option Bool). IsSome (option_map not o)) (sym (at_each it.0 it.1)) refl)
     ]
 
     -- where the truths are as they are known, it is true
     premise_true : IsPossible known node head args truth → (claim : Claim) → IsTruthAmong known (node ∷ args) claim
-        → premise_truth given (Some claim) ≡ Some true
+        → literal_truth given claim ≡ Some true
     premise_true possible claim it = elim it.2 [
-      | inl holds ↦ subst (λ (c : Claim). premise_truth given (Some c) ≡ Some true) (sym holds.1)
+      | inl holds ↦ subst (λ (c : Claim). literal_truth given c ≡ Some true) (sym holds.1)
           (at_each it.0 it.1 ∙ ap (λ r. Some r) ((kept possible it.0 it.1).holds holds.0))
-      | inr fails ↦ subst (λ (c : Claim). premise_truth given (Some c) ≡ Some true) (sym fails.1)
+      | inr fails ↦ subst (λ (c : Claim). literal_truth given c ≡ Some true) (sym fails.1)
           (ap (option_map not) (at_each it.0 it.1 ∙ ap (λ r. Some r) ((kept possible it.0 it.1).fails fails.0)))
     ]
 
@@ -208,35 +202,33 @@ module _ (known : Known) (node : ℕ) (head : Head) (args free : List ℕ) (tabl
 
     -- where every premise is true, the truths are as they are known
     keeps_from : (premises : List Claim) → AreTruthsAmong known (node ∷ args) premises
-        → All (λ (it : Claim). premise_truth given (Some it) ≡ Some true) premises
+        → All (λ (it : Claim). literal_truth given it ≡ Some true) premises
         → (m : ℕ) → Contains (node ∷ args) m → Keeps known m (truth m)
     keeps_from premises are each m has = record {
       holds = λ k. literal_says m true has
-          (All-contains (λ (it : Claim). premise_truth given (Some it) ≡ Some true) premises (Holds m) each (are.each (Holds m) (m, has, inl (k, refl))));
+          (All-contains (λ (it : Claim). literal_truth given it ≡ Some true) premises (Holds m) each (are.each (Holds m) (m, has, inl (k, refl))));
       fails = λ k. literal_says m false has
-          (All-contains (λ (it : Claim). premise_truth given (Some it) ≡ Some true) premises (Fails m) each (are.each (Fails m) (m, has, inr (k, refl))));
+          (All-contains (λ (it : Claim). literal_truth given it ≡ Some true) premises (Fails m) each (are.each (Fails m) (m, has, inr (k, refl))));
     }
 
     possible_from : (premises : List Claim) → AreTruthsAmong known (node ∷ args) premises
-        → All (λ (p : Option Claim). premise_truth given p ≡ Some true) (map (λ (it : Claim). Some it) premises)
+        → All (λ (it : Claim). literal_truth given it ≡ Some true) premises
         → IsPossible known node head args truth
     possible_from premises are all =
-        let each = all_before (λ (p : Option Claim). premise_truth given p ≡ Some true) premises all in
         record {
           agrees = record {
             table = whole;
-            arguments = all_of (λ m. Keeps known m (truth m)) args (λ m has. keeps_from premises are each m (one_of_longer node args m has));
+            arguments = all_of (λ m. Keeps known m (truth m)) args (λ m has. keeps_from premises are all m (one_of_longer node args m has));
           };
-          whole = keeps_from premises are each node (0, omega arith, refl);
+          whole = keeps_from premises are all node (0, omega arith, refl);
         }
 
     -- what is true in each possible assignment follows from the known truths
     follows_literal : (premises : List Claim) → AreTruthsAmong known (node ∷ args) premises → (n : ℕ) (value : Bool) → Contains (node ∷ args) n
         → ((other : ℕ → Bool) → IsPossible known node head args other → other n ≡ value)
-        → Follows given (map (λ (it : Claim). Some it) premises) (literal n value)
+        → Follows given premises (literal n value)
     follows_literal premises are n value has fixed = record {
-      expressed = All-map (λ (p : Option Claim). IsSome (premise_truth given p)) (λ (it : Claim). Some it) premises
-          (All-weaker (IsTruthAmong known (node ∷ args)) (λ (it : Claim). IsSome (premise_truth given (Some it))) premise_given premises are.only);
+      expressed = All-weaker (IsTruthAmong known (node ∷ args)) (λ (it : Claim). IsSome (literal_truth given it)) premise_given premises are.only;
       concluded = literal_given n value has;
       follows = λ all. literal_true n value has (fixed truth (possible_from premises are all));
     }
@@ -244,31 +236,29 @@ module _ (known : Known) (node : ℕ) (head : Head) (args free : List ℕ) (tabl
     -- where no assignment is possible, a contradiction follows
     follows_absurd : (premises : List Claim) → AreTruthsAmong known (node ∷ args) premises
         → ((other : ℕ → Bool) → ¬ IsPossible known node head args other)
-        → Follows given (map (λ (it : Claim). Some it) premises) Absurd
+        → Follows given premises Absurd
     follows_absurd premises are never = record {
-      expressed = All-map (λ (p : Option Claim). IsSome (premise_truth given p)) (λ (it : Claim). Some it) premises
-          (All-weaker (IsTruthAmong known (node ∷ args)) (λ (it : Claim). IsSome (premise_truth given (Some it))) premise_given premises are.only);
+      expressed = All-weaker (IsTruthAmong known (node ∷ args)) (λ (it : Claim). IsSome (literal_truth given it)) premise_given premises are.only;
       concluded = refl;
       follows = λ all. absurd (never truth (possible_from premises are all));
     }
 
     -- in a possible assignment all premises are true
     all_true : IsPossible known node head args truth → (premises : List Claim) → All (IsTruthAmong known (node ∷ args)) premises
-        → All (λ (p : Option Claim). premise_truth given p ≡ Some true) (map (λ (it : Claim). Some it) premises)
+        → All (λ (it : Claim). literal_truth given it ≡ Some true) premises
     all_true possible premises only =
-        All-map (λ (p : Option Claim). premise_truth given p ≡ Some true) (λ (it : Claim). Some it) premises
-        (All-weaker (IsTruthAmong known (node ∷ args)) (λ (it : Claim). premise_truth given (Some it) ≡ Some true)
-        (premise_true possible) premises only)
+        All-weaker (IsTruthAmong known (node ∷ args)) (λ (it : Claim). literal_truth given it ≡ Some true)
+        (premise_true possible) premises only
 
     -- so what follows is true in it
     literal_holds : IsPossible known node head args truth → (premises : List Claim) → All (IsTruthAmong known (node ∷ args)) premises
         → (n : ℕ) (value : Bool) → Contains (node ∷ args) n
-        → Follows given (map (λ (it : Claim). Some it) premises) (literal n value) → truth n ≡ value
+        → Follows given premises (literal n value) → truth n ≡ value
     literal_holds possible premises only n value has follows =
         literal_says n value has (follows.follows (all_true possible premises only))
 
     nothing_absurd : IsPossible known node head args truth → (premises : List Claim) → All (IsTruthAmong known (node ∷ args)) premises
-        → ¬ Follows given (map (λ (it : Claim). Some it) premises) Absurd
+        → ¬ Follows given premises Absurd
     nothing_absurd possible premises only follows =
         false≢true (same_Some false true (follows.follows (all_true possible premises only)))
 

@@ -1,32 +1,32 @@
 -- The words of the kernel on which the units and the laws of this crate rest: what a claim is, and what the rules `untruth`,
--- `eq`, `back`, `apart` and `table` let a line claim from premises. They stand here alone.
-use Rattle.std.specs.Prelude.{ℕ, List, map, Some}
+-- `eq`, `back`, `apart` and `table` allow from premises. They stand here alone.
+use Rattle.std.specs.Prelude.{ℕ, List}
 use Rattle.grind_term_graph.specs.declared.node.Node.{Node}
-pub use Rattle.grind_proof_kernel.specs.declared.claim.Claim.{Claim}
-pub use Rattle.grind_proof_kernel.specs.declared.claim.Claim.TheVariants.{Holds, Fails, Same, Differ, AtMost, Zero, Absurd}
-pub use Rattle.grind_proof_kernel.specs.Claims.{IsFormed}
-pub use Rattle.grind_proof_kernel.specs.Rules.{IsEquation, true_node, false_node}
-pub use Rattle.grind_proof_kernel.specs.Tables.{joined_truth, implies, alike}
-use Rattle.grind_proof_kernel.specs.Rules.{IsUntruth, IsEq, IsBack}
-use Rattle.grind_proof_kernel.specs.LinearRules.{IsApart}
-use Rattle.grind_proof_kernel.specs.Tables.{IsTable}
+pub use Rattle.grind_claims.specs.declared.claim.Claim.{Claim}
+pub use Rattle.grind_claims.specs.declared.claim.Claim.TheVariants.{Holds, Fails, Same, Differ, AtMost, Zero, Absurd}
+pub use Rattle.grind_claims.specs.Claims.{IsFormed}
+pub use Rattle.grind_rules.specs.Rules.{IsEquation, true_node, false_node}
+pub use Rattle.grind_rules.specs.Tables.{joined_truth, implies, alike}
+use Rattle.grind_rules.specs.Rules.{IsUntruth, IsEq, IsBack}
+use Rattle.grind_rules.specs.LinearRules.{IsApart}
+use Rattle.grind_rules.specs.Tables.{IsTableRule}
 
--- the rule `untruth` lets a line claim this from these premises
+-- the rule `untruth` allows this claim from these premises
 abbrev pub SaysUntruth : List Claim → Claim → Type 0
-SaysUntruth premises claim = IsUntruth (map (λ (it : Claim). Some it) premises) claim
+SaysUntruth premises claim = IsUntruth premises claim
 
 -- the rule `eq`
 abbrev pub SaysEq : List Node → List Claim → Claim → Type 0
-SaysEq nodes premises claim = IsEq nodes (map (λ (it : Claim). Some it) premises) claim
+SaysEq nodes premises claim = IsEq nodes premises claim
 
 -- the rule `back`
 abbrev pub SaysBack : List Node → List Claim → Claim → Type 0
-SaysBack nodes premises claim = IsBack nodes (map (λ (it : Claim). Some it) premises) claim
+SaysBack nodes premises claim = IsBack nodes premises claim
 
 -- the rule `apart`
 abbrev pub SaysApart : List Node → List Claim → Claim → Type 0
-SaysApart nodes premises claim = IsApart nodes (map (λ (it : Claim). Some it) premises) claim
+SaysApart nodes premises claim = IsApart nodes premises claim
 
 -- the rule `table`, with these free nodes
 abbrev pub SaysTable : List Node → List ℕ → List Claim → Claim → Type 0
-SaysTable nodes free premises claim = IsTable nodes free (map (λ (it : Claim). Some it) premises) claim
+SaysTable nodes free premises claim = IsTableRule nodes free premises claim
