@@ -1,8 +1,8 @@
 -- Ways along edges, and the classes that edges make.
-use Rattle.std.specs.Prelude.{◌≡◌, ℕ, zero, suc, List, [], ◌∷◌, ◌++◌, Some, All, length, slice_get, take, ◌⊎◌, ◌↔◌, refl}
+use Rattle.std.specs.Prelude.{◌≡◌, ℕ, zero, suc, List, [], ◌∷◌, ◌++◌, Some, All, length, slice_get, take, drop, ◌<◌, ◌⊎◌, ◌↔◌, refl}
 use Rattle.std.proofs.Common.{arith, sym, ◌∙◌, subst, inl, inr, get_or}
-use Rattle.std.proofs.lemmas.List.{take_all}
-use Rattle.std.proofs.lemmas.List.Elements.{All-push, All-weaker}
+use Rattle.std.proofs.lemmas.List.{take_all, take-append-drop}
+use Rattle.std.proofs.lemmas.List.Elements.{All-push, All-weaker, All-cons}
 use Rattle.std.proofs.lemmas.Option.{slice_get_within, get_or_from_slice_get, slice_get-get_or}
 use Rattle.grind_classes.specs.Classes.{IsIn, IsActive, AreTogether, IsPartition, AreMergedAt}
 use Rattle.grind_congruence.specs.declared.edge.Edge.{Edge}
@@ -168,3 +168,15 @@ AreClassesOf-merge old new edges edge tied classes act_left act_right active tog
     ends = All-push (HasEndsTogether new) edges edge
         (All-weaker (HasEndsTogether old) (HasEndsTogether new) (λ e t. (together e.left e.right).1 (inl t)) edges (ends_together old edges tied))
         ((together edge.left edge.right).1 (inr (inl (together-itself old edge.left act_left, together-itself old edge.right act_right))))
+
+-- what stands among the first items stands in the list
+pub Leads-take : (edges : List Edge) (k : ℕ) (places : List ℕ) (a b : ℕ) → Leads (take k edges) places a b → Leads edges places a b
+Leads-take edges k places a b leads =
+    subst (λ (es : List Edge). Leads es places a b) (take-append-drop k edges)
+    (Leads-more (take k edges) (drop k edges) places a b leads)
+
+-- the places of a way are below the number of edges
+pub Leads-below : (edges : List Edge) (places : List ℕ) (a b : ℕ) → Leads edges places a b → All (λ place. place < length edges) places
+Leads-below edges [] a b e = λ k d below. absurd (omega arith)
+Leads-below edges (place ∷ places) a b (edge, mid, stands, passes, rest) =
+    All-cons (λ k. k < length edges) place places (slice_get_within edges place edge stands) (Leads-below edges places mid b rest)

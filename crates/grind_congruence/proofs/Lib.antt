@@ -2,5 +2,6 @@ pub mod EdgeLemmas
 pub mod FitLemmas
 pub mod ExactLemmas
 pub mod SearchLemmas
-pub mod ReachLemmas
 pub mod MarkLemmas
+pub mod ForestLemmas
+pub mod LegLemmas

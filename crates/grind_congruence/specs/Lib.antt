@@ -4,6 +4,5 @@ pub mod Edges
 pub mod Exact
 pub mod Asserted
 pub mod Searching
-pub mod Reaching
-pub mod Ways
+pub mod Forest
 pub mod Marks

@@ -8,7 +8,9 @@ ghost use Rattle.grind_congruence.specs.Exact.{ExactAtRest, FitsLonger};
 ghost use Rattle.grind_congruence.specs.Asserted.{IsJoined};
 
 use crate::edge::{Edge, Found};
-use crate::path::first_way;
+use crate::forest::Forest;
+use crate::joining::join_of;
+use crate::legs::tree_way;
 use crate::search::find_pair;
 use crate::view::{ClosureView, Noted};
 use grind_classes::Classes;
@@ -24,12 +26,14 @@ use std::marker::Model;
 pub struct Closure {
     classes: Classes,
     edges: List<Edge>,
+    forest: Forest,
     marks: List<Noted>,
 }
 
 impl Model for Closure {
     ghost use Rattle.grind_congruence.specs.Congruence.{Congruence};
     ghost use Rattle.grind_congruence.specs.Marks.{views, IsKept};
+    ghost use Rattle.grind_congruence.specs.Forest.{AreJoinedBy};
 
     ghost Value = { Congruence };
 
@@ -39,7 +43,7 @@ impl Model for Closure {
         marked = views a.classes.marked a.edges a.marks;
     } };
 
-    ghost invariant = { λ a. IsKept a.classes a.edges a.marks };
+    ghost invariant = { λ a. IsKept a.classes a.edges a.marks × AreJoinedBy a.edges a.forest };
 }
 
 impl Closure {
@@ -51,6 +55,7 @@ impl Closure {
         Closure {
             classes: Classes::new(alloc),
             edges: List::new(alloc),
+            forest: Forest::new(alloc),
             marks: List::new(alloc),
         }
     }
@@ -105,16 +110,22 @@ impl Closure {
         if self.classes.same(a, b) {
             return Ok(());
         }
+        let join = join_of(&self.classes, &self.forest, a, b);
         let len = self.edges.len();
         self.edges.push(Edge {
             left: a,
             right: b,
             why,
         })?;
+        let Ok(()) = self.forest.push(join) else {
+            self.edges.truncate(len);
+            return Err(Memory);
+        };
         match self.classes.merge(alloc, a, b, why) {
             Ok(_) => Ok(()),
             Err(_) => {
                 self.edges.truncate(len);
+                self.forest.truncate(len as u32);
                 Err(Memory)
             }
         }
@@ -181,7 +192,8 @@ impl Closure {
         ensures apart { IfOk result (λ places. AreApart places) }
         ensures among { IfOk result (λ places. (k : ℕ) → Joins self.now.edges k a b → All (λ place. place < k) places) }
     {
-        first_way(alloc, self.edges.as_slice(), a, b)
+        let places = tree_way(alloc, self.edges.as_slice(), &self.forest, a, b)?;
+        Ok(places)
     }
 
     /// The same closure once more, with the same marks.
@@ -191,11 +203,13 @@ impl Closure {
         let classes = self.classes.copy(alloc)?;
         let mut edges = List::new(alloc);
         edges.extend(self.edges.as_slice())?;
+        let forest = self.forest.copy(alloc)?;
         let mut marks = List::new(alloc);
         marks.extend(self.marks.as_slice())?;
         Ok(Closure {
             classes,
             edges,
+            forest,
             marks,
         })
     }
@@ -227,6 +241,7 @@ impl Undo for Closure {
         let noted = self.marks.as_slice()[place];
         self.classes.undo(mark);
         self.edges.truncate(noted.edges as usize);
+        self.forest.truncate(noted.edges);
         self.marks.truncate(place);
     }
 }

@@ -5,8 +5,10 @@
 
 pub mod closure;
 pub mod edge;
-mod path;
-mod reached;
+mod forest;
+mod joining;
+mod legs;
+mod lost;
 mod search;
 pub mod view;
 

@@ -21,8 +21,7 @@ use Rattle.grind_classes.specs.Classes.{IsActive, AreTogether}
 use Rattle.grind_congruence.specs.declared.edge.Edge.{Edge}
 use Rattle.grind_congruence.specs.Congruence.{Congruence, Fits}
 use Rattle.grind_congruence.specs.Edges.{Leads, Joins, AreClassesOf}
-use Rattle.grind_congruence.proofs.EdgeLemmas.{All-at, Joins-all, slice_get-more, slice_get-last}
-use Rattle.grind_congruence.proofs.ReachLemmas.{Leads-take, Leads-below}
+use Rattle.grind_congruence.proofs.EdgeLemmas.{All-at, Joins-all, Leads-below, Leads-take, slice_get-more, slice_get-last}
 use Rattle.grind_explain.specs.declared.why.Why.{Why}
 use Rattle.grind_explain.specs.declared.why.Why.TheVariants as why
 use Rattle.grind_explain.specs.Explained.{IsReady, Tells, AreJoinedWithin, IsReason, HasReasons, IsFewest, Appends, EndsWith}
