@@ -25,6 +25,7 @@ FILES = {
     "grind_proof_kernel": ["Claims", "Tables", "LinearRules", "PolyRules", "Rules", "Typing", "Judgement", "Laws"],
     "grind_par_check": ["Judges"],
     "grind_explain": ["Explained"],
+    "grind_truth_prop": ["Kernel", "Given", "Evidence", "Classed", "Sides", "Equations", "Connectives", "Splits", "Steps", "Laws"],
     "grind_case_split": ["Congruences", "Writing", "Building", "Given", "Laws"],
     "grind_value_tables": ["Respects", "Truths", "Evaluations", "Overflows", "Laws"],
     "grind_tokens": ["Tokens"],
