@@ -7,4 +7,4 @@ pub mod StepLemmas
 pub mod TableLemmas
 pub mod LawLemmas
 pub mod SettledLemmas
-pub mod DrawnLemmas
+pub mod RestLemmas

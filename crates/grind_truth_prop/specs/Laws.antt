@@ -79,7 +79,7 @@ abbrev pub AreJoined : Known → List (List ℕ) → ℕ → ℕ → Type 0
 AreJoined known lists a b = AreTogether lists a b ⊎ (Contains known.same (couple a b) ⊎ Contains known.same (couple b a))
 
 -- no consequence is left
-pub record IsDrawn (known : Known) (lists : List (List ℕ)) : Type 0 where
+pub record NoConsequenceLeft (known : Known) (lists : List (List ℕ)) : Type 0 where
   -- what is in the class of `True` or `False` is known
   pub classes : (n : ℕ) (value : Bool) → AreTogether lists n (truth_node value) → IsKnown known n
   -- the sides of an equation that holds are joined
@@ -101,7 +101,7 @@ pub record IsDrawn (known : Known) (lists : List (List ℕ)) : Type 0 where
       → All (IsTruthAmong known (node ∷ args)) premises → ¬ SaysTable known.terms.nodes free premises Absurd
 
 -- nothing is to be tried
-pub record IsTried (known : Known) (lists : List (List ℕ)) : Type 0 where
+pub record NothingToTry (known : Known) (lists : List (List ℕ)) : Type 0 where
   -- each known connective is fixed by the known truths of its arguments, or by sides in one class
   pub fixed : (node : ℕ) (head : Head) (args : List ℕ) → IsKnown known node → IsConnective known.terms.nodes node head args
       → IsFixedByArguments known lists node head args
@@ -109,11 +109,11 @@ pub record IsTried (known : Known) (lists : List (List ℕ)) : Type 0 where
   pub alone : (node other : ℕ) → IsUnknown known lists node → IsTrialNode known.terms.nodes node → AreTogether lists node other → other ≡ node
 
 -- where a formula is wanted, no consequence is left
-abbrev pub WantsIsDrawn : Type 0
-WantsIsDrawn = (known : Known) (lists : List (List ℕ)) (n : ℕ) → Fits known lists → HasTable known → IsStep known lists (Wants n)
-    → IsDrawn known lists
+abbrev pub NoConsequenceAtWants : Type 0
+NoConsequenceAtWants = (known : Known) (lists : List (List ℕ)) (n : ℕ) → Fits known lists → HasTable known → IsStep known lists (Wants n)
+    → NoConsequenceLeft known lists
 
 -- at rest no consequence is left, and nothing is to be tried
-abbrev pub RestIsDrawn : Type 0
-RestIsDrawn = (known : Known) (lists : List (List ℕ)) → Fits known lists → HasTable known → IsStep known lists Rest
-    → IsDrawn known lists × IsTried known lists
+abbrev pub NothingLeftAtRest : Type 0
+NothingLeftAtRest = (known : Known) (lists : List (List ℕ)) → Fits known lists → HasTable known → IsStep known lists Rest
+    → NoConsequenceLeft known lists × NothingToTry known lists

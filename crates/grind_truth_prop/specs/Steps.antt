@@ -9,7 +9,7 @@ use Rattle.grind_truth_prop.specs.declared.types.Known.{Known}
 use Rattle.grind_truth_prop.specs.declared.types.TruthStep.{TruthStep}
 use Rattle.grind_truth_prop.specs.declared.types.TruthStep.TheVariants.{Classed, Sides, Joined, Parted, Settle, Conflict, Wants, Rest}
 
--- no equation has a case, nor has a node in the class of `True` or `False`
+-- neither a node in the class of `True` or `False` has a case, nor the sides of a known equation
 pub record NoneAtClasses (known : Known) (lists : List (List ℕ)) : Type 0 where
   pub classed : NoneClassed known lists
   pub sides : NoSides known lists

@@ -1,5 +1,5 @@
 //! What holds of every answer. Each law is a call without a body: who makes the call knows the law.
-ghost use Rattle.grind_truth_prop.specs.Laws.{ClassedIsTyped, SidesAreTyped, JoinedIsTyped, PartedIsTyped, SettledIsTyped, ContradictedIsTyped, WantsIsDrawn, RestIsDrawn};
+ghost use Rattle.grind_truth_prop.specs.Laws.{ClassedIsTyped, SidesAreTyped, JoinedIsTyped, PartedIsTyped, SettledIsTyped, ContradictedIsTyped, NoConsequenceAtWants, NothingLeftAtRest};
 
 /// What is in the class of `True` or `False` holds or fails, by the rule `untruth`.
 pub fn classed_is_typed()
@@ -33,11 +33,11 @@ pub fn contradicted_is_typed()
 {}
 
 /// Where a formula is to be tried, no consequence is left.
-pub fn wants_is_drawn()
-    ensures { WantsIsDrawn }
+pub fn no_consequence_at_wants()
+    ensures { NoConsequenceAtWants }
 {}
 
 /// At rest no consequence is left, and nothing is to be tried.
-pub fn rest_is_drawn()
-    ensures { RestIsDrawn }
+pub fn nothing_left_at_rest()
+    ensures { NothingLeftAtRest }
 {}

@@ -1,9 +1,10 @@
 //! The next consequence.
-ghost use Rattle.std.specs.Prelude.{◌≡◌, ◌↔◌, IfOk};
+ghost use Rattle.std.specs.Prelude.{◌≡◌, ◌↔◌, ℕ, IfOk};
 ghost use Rattle.grind_classes.specs.Classes.{IsPartition};
 ghost use Rattle.grind_truth_prop.specs.Given.{Fits};
+ghost use Rattle.grind_truth_prop.specs.Splits.{IsWanted};
 ghost use Rattle.grind_truth_prop.specs.Findings.{equated_answer, IsAnswerTo};
-ghost use Rattle.grind_truth_prop.specs.Steps.{IsStep, IsAtRest, NoneAtClasses};
+ghost use Rattle.grind_truth_prop.specs.Steps.{IsStep, IsAtRest, NoneAtClasses, NothingFollows};
 
 use crate::pairs::{parted_places, places_of};
 use crate::types::{Known, TruthStep};
@@ -26,6 +27,8 @@ use std::alloc::Global;
 pub fn truth_step(alloc: Global, known: &Known, classes: &Classes) -> Result<TruthStep, Memory>
     requires { Fits known.now classes.now }
     ensures step { IfOk result (λ step. IsStep known.now classes.now step) }
+    ensures wants { IfOk result (λ step. (n : ℕ) → (step ≡ TruthStep.Wants n)
+        ↔ (NothingFollows known.now classes.now × IsWanted known.now classes.now n)) }
     ensures rest { IfOk result (λ step. (step ≡ TruthStep.Rest) ↔ IsAtRest known.now classes.now) }
 {
     let _active = classes.is_active(NodeId::TRUE);

@@ -10,7 +10,7 @@ use Rattle.grind_truth_prop.specs.Evidence.{IsTruthAmong}
 use Rattle.grind_truth_prop.specs.Classed.{literal}
 use Rattle.grind_truth_prop.specs.Connectives.{IsConnective, AreFreeNodes}
 use Rattle.grind_truth_prop.specs.Steps.{NothingFollows}
-use Rattle.grind_truth_prop.specs.Laws.{HasTable, IsDrawn, WantsIsDrawn, RestIsDrawn}
+use Rattle.grind_truth_prop.specs.Laws.{HasTable, NoConsequenceLeft, NoConsequenceAtWants, NothingLeftAtRest}
 use Rattle.grind_truth_prop.specs.declared.types.Known.{Known}
 use Rattle.grind_truth_prop.proofs.SettledLemmas.{says_true, says_no_contradiction}
 
@@ -32,8 +32,8 @@ module _ (known : Known) (lists : List (List ℕ)) (table : HasTable known) (non
             sym both.0.2 ∙ says_true known node head args free table conn is both.0.0 both.0.1 premises only n false has line)
       ]
 
-  drawn : IsDrawn known lists
-  drawn = record {
+  none_left : NoConsequenceLeft known lists
+  none_left = record {
     classes = none.classed;
     holds = λ n a b is holds. elim ((none.sides n a b is).0 holds) [ inl t ↦ inl t | inr has ↦ inr (inl has) ];
     fails = λ n a b is fails. (none.sides n a b is).1 fails;
@@ -44,12 +44,12 @@ module _ (known : Known) (lists : List (List ℕ)) (table : HasTable known) (non
         says_no_contradiction known node head args free table conn is possible.0 possible.1 premises only line;
   }
 
-pub wants_is_drawn : WantsIsDrawn
-wants_is_drawn known lists n fits table at = drawn known lists table at.0
+pub no_consequence_at_wants : NoConsequenceAtWants
+no_consequence_at_wants known lists n fits table at = none_left known lists table at.0
 
-pub rest_is_drawn : RestIsDrawn
-rest_is_drawn known lists fits table at = (
-  drawn known lists table at.follows,
+pub nothing_left_at_rest : NothingLeftAtRest
+nothing_left_at_rest known lists fits table at = (
+  none_left known lists table at.follows,
   record {
     fixed = λ node head args is conn. (at.wanted node).fixed head args is conn;
     alone = λ node other unknown kind together. (at.wanted node).alone unknown kind other together;
