@@ -1,0 +1,18 @@
+//! Single calls on lists, shelves and sinks, terms, classes, closures, theorems, signatures and judges, compared with what they must
+//! answer: those that no case of `grind_rows` shows.
+#![tactic(auto)]
+
+#[cfg(test)]
+mod class_tests;
+#[cfg(test)]
+mod closure_tests;
+#[cfg(test)]
+mod judge_tests;
+#[cfg(test)]
+mod outside_tests;
+#[cfg(test)]
+mod signature_tests;
+#[cfg(test)]
+mod term_tests;
+#[cfg(test)]
+mod theorem_tests;
