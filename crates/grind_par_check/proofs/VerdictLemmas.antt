@@ -3,7 +3,7 @@ use Rattle.std.proofs.Common.{ℕ, ◌≡◌, ◌<◌, ◌⊎◌, inl, inr, refl
 use Rattle.std.proofs.lemmas.Bool.{cases_order}
 use Rattle.grind_schemes.specs.Goals.{GoalData}
 use Rattle.grind_schemes.specs.declared.lemmas.Lemmas.{Lemmas}
-use Rattle.grind_proof_kernel.specs.declared.proof.Proof.{Proof}
+use Rattle.grind_claims.specs.declared.proof.Proof.{Proof}
 use Rattle.grind_proof_kernel.specs.declared.checker.Verdict.{Verdict}
 use Rattle.grind_proof_kernel.specs.declared.checker.Verdict.TheVariants.{Typed, BadBranch, BadLine}
 use Rattle.grind_proof_kernel.specs.Judgement.{HasGoodBranches, IsFirstBadBranch, IsFirstBadLine, IsRight}

@@ -2,7 +2,7 @@
 use Rattle.std.specs.Prelude.{◌≡◌}
 use Rattle.grind_schemes.specs.Goals.{GoalData}
 use Rattle.grind_schemes.specs.declared.lemmas.Lemmas.{Lemmas}
-use Rattle.grind_proof_kernel.specs.declared.proof.Proof.{Proof}
+use Rattle.grind_claims.specs.declared.proof.Proof.{Proof}
 use Rattle.grind_proof_kernel.specs.declared.checker.Verdict.{Verdict}
 use Rattle.grind_proof_kernel.specs.Judgement.{IsRight}
 

@@ -2,7 +2,7 @@
 ghost use Rattle.std.specs.Prelude.{◌≡◌, ◌≤◌, ◌-◌, ◌^◌, IfOk, IfSome, IsTrue, All, length};
 ghost use Rattle.std.specs.List.{AllByRecursion};
 ghost use Rattle.grind_proof_kernel.specs.Typing.{HasTerms};
-ghost use Rattle.grind_proof_kernel.specs.declared.proof.Line.{Line as ALine};
+ghost use Rattle.grind_claims.specs.declared.proof.Line.{Line as ALine};
 ghost use Rattle.grind_report.specs.Report.{TakesPremises};
 ghost use Rattle.grind_signature.specs.Signatures.{IsDeclared};
 ghost use Rattle.grind_theory.specs.Theories.{AreDeclared};
