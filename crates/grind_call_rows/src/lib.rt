@@ -1,11 +1,7 @@
-//! Single calls on lists, shelves and sinks, streams and files of the machine, the words of a program, terms, classes, closures,
-//! theorems, signatures and judges, compared with what they must answer: those that no case of `grind_rows` shows.
+//! Single calls on lists, shelves and sinks, streams and files of the machine, the words of a program, and judges, compared with what
+//! they must answer: those that no case of `grind_rows` shows.
 #![tactic(auto)]
 
-#[cfg(test)]
-mod class_tests;
-#[cfg(test)]
-mod closure_tests;
 #[cfg(test)]
 mod judge_tests;
 #[cfg(test)]
@@ -15,10 +11,4 @@ mod outside_tests;
 #[cfg(test)]
 mod program_tests;
 #[cfg(test)]
-mod signature_tests;
-#[cfg(test)]
 mod stream_tests;
-#[cfg(test)]
-mod term_tests;
-#[cfg(test)]
-mod theorem_tests;

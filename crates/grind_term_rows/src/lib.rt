@@ -1,0 +1,14 @@
+//! Single calls on terms, classes, closures, theorems and signatures, compared with what they must answer: those that no case of
+//! `grind_rows` shows.
+#![tactic(auto)]
+
+#[cfg(test)]
+mod class_tests;
+#[cfg(test)]
+mod closure_tests;
+#[cfg(test)]
+mod signature_tests;
+#[cfg(test)]
+mod term_tests;
+#[cfg(test)]
+mod theorem_tests;
