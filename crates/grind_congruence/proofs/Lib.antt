@@ -5,3 +5,4 @@ pub mod SearchLemmas
 pub mod MarkLemmas
 pub mod ForestLemmas
 pub mod LegLemmas
+pub mod TableLemmas

@@ -6,3 +6,4 @@ pub mod Asserted
 pub mod Searching
 pub mod Forest
 pub mod Marks
+pub mod Table

@@ -11,6 +11,7 @@ use crate::edge::{Edge, Found};
 use crate::forest::Forest;
 use crate::joining::join_of;
 use crate::legs::tree_way;
+use crate::looking::find_found;
 use crate::search::find_pair;
 use crate::view::{ClosureView, Noted};
 use grind_classes::Classes;
@@ -137,7 +138,7 @@ impl Closure {
     /// # Errors
     ///
     /// `Memory`.
-    pub fn step(&mut self, _alloc: Global, terms: &TermTable) -> Result<Option<Found>, Memory>
+    pub fn step(&mut self, alloc: Global, terms: &TermTable) -> Result<Option<Found>, Memory>
         requires fits { Fits self.old.lists terms.now.nodes }
         ensures left { IfOk result (λ answer. IfSome answer (λ found. IsActive self.old.lists found.left)) }
         ensures right { IfOk result (λ answer. IfSome answer (λ found. IsActive self.old.lists found.right)) }
@@ -148,7 +149,8 @@ impl Closure {
         ensures rest { IfOk result (λ answer. IsNone answer ↔ IsAtRest self.old.lists terms.now.nodes) }
         ensures same { self.new ≡ self.old }
     {
-        Ok(find_pair(&self.classes, terms))
+        let answer = find_found(alloc, &self.classes, terms)?;
+        Ok(answer)
     }
 
     /// Whether no two active nodes that are congruent are in different classes. It takes no memory.

@@ -8,6 +8,7 @@ pub mod edge;
 mod forest;
 mod joining;
 mod legs;
+mod looking;
 mod lost;
 mod search;
 pub mod view;
