@@ -1,4 +1,4 @@
-//! The single calls of the agents, compared with what they must answer.
+//! The next consequence by single calls, compared with what it must be.
 #![tactic(auto)]
 
 #[cfg(test)]
