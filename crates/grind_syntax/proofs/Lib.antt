@@ -3,6 +3,7 @@ pub mod DeclarationLemmas
 pub mod FileLemmas
 pub mod Fronts
 pub mod Items
+pub mod KindLemmas
 pub mod ListLemmas
 pub mod OperatorLemmas
 pub mod TermLemmas

@@ -84,10 +84,10 @@ pub(crate) fn symbol_at<'a>(_text: &[u8], tokens: &'a [Token], sym: Sym) -> Opti
         (λ left. reading.symbol_at sym (lexemes _text.now tokens.now) ≡ Some (lexemes _text.now left.now)) }
     ensures left { IfSome result (λ left. Past _text.now tokens.now left.now) }
 {
-    let Some((token, left)) = tokens.split_first() else {
+    let Some((found, left)) = any_symbol_at(_text, tokens) else {
         return None;
     };
-    if token.kind == TokenKind::Symbol(sym) {
+    if found == sym {
         return Some(left);
     }
     None

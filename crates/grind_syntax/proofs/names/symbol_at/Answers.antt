@@ -1,12 +1,11 @@
-use Rattle.std.proofs.Common.{◌≡◌, ◌∷◌, List, rules, length}
+use Rattle.std.proofs.Common.{◌≡◌, ◌∷◌, List, rules}
 use Rattle.grind_grammar.specs.Lexemes.{Lexeme, Symbol, lexemes}
-use Rattle.grind_syntax.proofs.Fronts.{symbol_front, no_symbol_front, no_symbol_at_end}
+use Rattle.grind_syntax.proofs.Fronts.{symbol_front, no_symbol_front}
 use Rattle.grind_syntax.proofs.names.symbol_at.Goals as goal
 
 pub returns-in_default-clause-is : goal.returns-in_default-clause-is
 returns-in_default-clause-is c =
-    let end : length c.args.tokens.now ≡ 0 = search rules in
-    no_symbol_at_end c.args.sym c.args._text.now c.args.tokens.now end
+    no_symbol_front c.args.sym (lexemes c.args._text.now c.args.tokens.now) (λ rest e. c.in_default.ensures.is c.args.sym rest e)
 
 pub returns-then-eq-clause-is : goal.returns-then-eq-clause-is
 returns-then-eq-clause-is c =
