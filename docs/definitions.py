@@ -12,6 +12,7 @@ import re
 
 FILES = {
     "grind_outside": ["NamedFiles", "Outside"],
+    "grind_undo_trail": ["Marks", "Rising"],
     "grind_lemmas": None,
     "grind_term_graph": ["Terms", "Shape", "Placed"],
     "grind_reach": ["Reached", "Readings", "Marks", "Values", "Laws"],
@@ -19,8 +20,8 @@ FILES = {
     "grind_monomials": ["Monomials", "Order", "Counts", "Laws"],
     "grind_polynomials": ["Numbers", "Polynomials", "Sums", "Readings", "Pairs", "Reduction", "Gathering", "FinalFactors", "Values", "Laws"],
     "grind_differences": ["Bounds", "Differences", "Equations", "Laws"],
-    "grind_classes": ["Classes"],
-    "grind_congruence": ["Derivable", "Congruence", "Edges", "Exact", "Asserted"],
+    "grind_classes": ["Classes", "Trail"],
+    "grind_congruence": ["Derivable", "Congruence", "Edges", "Marks", "Table", "Forest", "Exact", "Asserted"],
     "grind_schemes": ["Labels", "Goals", "Limits", "Schemes", "Theorems", "Instances", "Laws"],
     "grind_claims": ["Claims", "Literals", "Laws"],
     "grind_rules": ["Tables", "LinearRules", "PolyRules", "Rules", "Laws"],

@@ -1,9 +1,8 @@
 -- The trail as it grows and is cut.
-use Rattle.std.specs.Prelude.{◌≡◌, ℕ, zero, suc, ◌+◌, ◌<◌, ◌≤◌, List, [], ◌∷◌, ◌++◌, Some, length, map, take, drop, slice_get, ◌⊎◌, refl}
+use Rattle.std.specs.Prelude.{◌≡◌, ℕ, zero, suc, ◌+◌, ◌<◌, ◌≤◌, List, [], ◌∷◌, ◌++◌, Some, length, map, take, drop, slice_get, refl}
 use Rattle.std.proofs.Common.{arith, sym, ap, ◌∙◌, subst, inl, inr, get_or}
 use Rattle.std.proofs.lemmas.Option.{same_Some}
 use Rattle.std.proofs.lemmas.List.{length-append, take-append-drop, drop-append-le, take-append-le, take-map}
-use Rattle.grind_undo_trail.specs.Rising.{AreRising}
 use Rattle.grind_undo_trail.proofs.RisingLemmas.{AreRising-more, AreRising-push, AreRising-take, AreRising-within, AreRising-map}
 use Rattle.grind_classes.specs.declared.change.Change.{Change}
 use Rattle.grind_classes.specs.Trail.{undone, rewound, IsMade, WasMade, IsTrail, IsRewoundOnce, IsUndoable, marked_lists}

@@ -9,8 +9,8 @@ use Rattle.grind_classes.specs.declared.change.Change.{Change}
 use Rattle.grind_classes.specs.declared.change.Change.TheVariants.{Activated, Joined}
 use Rattle.grind_classes.specs.Classes.{members_of, IsIn, IsActive, IsPartition, long_enough, with_class, joined}
 use Rattle.grind_classes.specs.Roots.{root_at, repointed, AreTied}
-use Rattle.grind_classes.specs.Trail.{AreJoinable, parted, undone, IsMade, WasMade, WasAlone, WasJoined}
-use Rattle.grind_classes.proofs.ListLemmas.{members_within, root_within, long_enough-within, Contains-nil, Contains-more, Contains-cases, repointed-in, repointed-out}
+use Rattle.grind_classes.specs.Trail.{AreJoinable, parted, undone, IsMade, WasAlone, WasJoined}
+use Rattle.grind_classes.proofs.ListLemmas.{members_within, root_within, Contains-nil, Contains-more, Contains-cases, repointed-in, repointed-out}
 use Rattle.grind_classes.proofs.ClassLemmas.{members_of-new, IsIn-with_class}
 use Rattle.grind_classes.proofs.MergeLemmas.{members-joined-kept, IsIn-joined, in_joined}
 
@@ -164,7 +164,7 @@ AreTied-parted lists roots kept gone moved tied (before, made) =
             | inr right ↦ absurd (outside right.1)
           ],
           λ has. here ∙ (tied.rooted m r).1 (rw made.2 ((IsIn-joined before kept gone r m made.0).1
-          (inl (λ is. outside (subst (λ (s : ℕ). IsIn before s m) is has), has)))),
+              (inl (λ is. outside (subst (λ (s : ℕ). IsIn before s m) is has), has)))),
         )
 
 -- lists in whose places others are put

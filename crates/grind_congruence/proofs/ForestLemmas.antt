@@ -1,15 +1,15 @@
 -- Trees of classes, as joins are made.
-use Rattle.std.specs.Prelude.{◌≡◌, ◌≢◌, ℕ, zero, suc, ◌+◌, ◌<◌, ◌≤◌, Bool, true, false, cond, nat_eq, List, [], ◌∷◌, ◌++◌, Option, Some, None, Contains, length, take, drop, slice_get, slice_index_or, set, ◌⊎◌, refl}
+use Rattle.std.specs.Prelude.{◌≡◌, ◌≢◌, ℕ, zero, suc, ◌+◌, ◌<◌, ◌≤◌, Bool, true, false, cond, nat_eq, List, [], ◌∷◌, ◌++◌, Option, Some, None, length, take, drop, slice_get, slice_index_or, set, ◌⊎◌, refl}
 use Rattle.std.proofs.Common.{arith, sym, ap, ◌∙◌, subst, inl, inr, get_or}
 use Rattle.std.proofs.lemmas.Bool.{cases_eq}
 use Rattle.std.proofs.lemmas.Bool.Decides.{Decides-eqb}
 use Rattle.std.proofs.lemmas.Option.{same_Some, slice_get_within, get_or_from_slice_get}
-use Rattle.std.proofs.lemmas.List.{length-append, length-set, take-append-drop, take-append-le, take-take, take_all, get_or-set_same, get_or-set_other}
+use Rattle.std.proofs.lemmas.List.{length-append, take-append-drop, take-append-le, take-take, take_all, get_or-set_same, get_or-set_other}
 use Rattle.grind_congruence.specs.declared.edge.Edge.{Edge}
 use Rattle.grind_congruence.specs.declared.forest.Join.{Join}
 use Rattle.grind_classes.specs.Classes.{IsActive, AreTogether}
 use Rattle.grind_congruence.specs.Edges.{Passes, Leads, Joins, AreClassesOf}
-use Rattle.grind_congruence.specs.Forest.{stepped, climbed, AreSameAt, IsNeverGone, IsGoneAt, IsFirstGone, IsForest, AreFound, AreJoinedBy, IsJoinOf, IsSplit}
+use Rattle.grind_congruence.specs.Forest.{stepped, climbed, AreSameAt, IsNeverGone, IsGoneAt, IsForest, AreFound, AreJoinedBy, IsJoinOf}
 use Rattle.grind_congruence.proofs.EdgeLemmas.{Leads-append, Joins-all, active-left, active-right}
 
 -- two numbers are one, or they are not
@@ -241,7 +241,7 @@ is_gone_at joins lost n place join found entry stands is = record {
   stands = stands;
   gone = is;
   only = λ other it there e. same_Some other place
-          (sym (found.written other it there) ∙ ap (λ m. slice_index_or lost m None) e ∙ entry);
+      (sym (found.written other it there) ∙ ap (λ m. slice_index_or lost m None) e ∙ entry);
 }
 
 -- where another node, or none, stands at the place that is written, the node is not gone
@@ -319,17 +319,21 @@ same_leads edges joins (suc m) a b by within same =
         | inr ob ↦
             let first = same_leads edges joins m a it.0.from by (omega (arith, within)) (ga ∙ sym (by.from m it.0 it.1)) in
             let second = same_leads edges joins m it.0.to b by (omega (arith, within))
-            (by.to m it.0 it.1 ∙ sym (stepped_gone (climbed a (take m joins)) it.0 ga) ∙ steps ∙ stepped_other (climbed b (take m joins)) it.0 ob) in
-            (first.0 ++ m ∷ second.0, Leads-append edges first.0 (m ∷ second.0) a it.0.from b first.1
-            (edge.0, it.0.to, edge.1, by.passes m edge.0 it.0 edge.1 it.1, second.1))
+            (by.to m it.0 it.1 ∙ sym (stepped_gone (climbed a (take m joins)) it.0 ga) ∙ steps ∙ stepped_other (climbed b (take m joins)) it.0 ob) in (
+              first.0 ++ m ∷ second.0,
+              Leads-append edges first.0 (m ∷ second.0) a it.0.from b first.1
+                  (edge.0, it.0.to, edge.1, by.passes m edge.0 it.0 edge.1 it.1, second.1),
+            )
       ]
       | inr oa ↦ elim (cases_eq (climbed b (take m joins)) it.0.gone) [
         | inl gb ↦
             let first = same_leads edges joins m a it.0.to by (omega (arith, within))
             (sym (stepped_other (climbed a (take m joins)) it.0 oa) ∙ steps ∙ stepped_gone (climbed b (take m joins)) it.0 gb ∙ sym (by.to m it.0 it.1)) in
-            let second = same_leads edges joins m it.0.from b by (omega (arith, within)) (by.from m it.0 it.1 ∙ sym gb) in
-            (first.0 ++ m ∷ second.0, Leads-append edges first.0 (m ∷ second.0) a it.0.to b first.1
-            (edge.0, it.0.from, edge.1, swap edge.0 it.0 (by.passes m edge.0 it.0 edge.1 it.1), second.1))
+            let second = same_leads edges joins m it.0.from b by (omega (arith, within)) (by.from m it.0 it.1 ∙ sym gb) in (
+              first.0 ++ m ∷ second.0,
+              Leads-append edges first.0 (m ∷ second.0) a it.0.to b first.1
+                  (edge.0, it.0.from, edge.1, swap edge.0 it.0 (by.passes m edge.0 it.0 edge.1 it.1), second.1),
+            )
         | inr ob ↦ same_leads edges joins m a b by (omega (arith, within))
             (sym (stepped_other (climbed a (take m joins)) it.0 oa) ∙ steps ∙ stepped_other (climbed b (take m joins)) it.0 ob)
       ]

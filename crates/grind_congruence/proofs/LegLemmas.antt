@@ -1,18 +1,17 @@
 -- Ways in trees, and the parts of which they are made.
 use Rattle.std.specs.Prelude.{◌≡◌, ◌≢◌, ℕ, zero, suc, ◌+◌, ◌<◌, ◌≤◌, Bool, true, false, cond, min, nat_eq, not, List, [], ◌∷◌, ◌++◌, Some, All, Contains, length, take, slice_get, ◌⊎◌, refl}
 use Rattle.std.proofs.Common.{arith, sym, ap, ◌∙◌, subst, inl, inr, append_assoc}
-use Rattle.std.proofs.lemmas.Bool.{cases_eq, false≢true}
+use Rattle.std.proofs.lemmas.Bool.{false≢true}
 use Rattle.std.proofs.lemmas.Bool.Decides.{Decides-eqb}
-use Rattle.std.proofs.lemmas.List.{append-nil, take_all}
+use Rattle.std.proofs.lemmas.List.{append-nil}
 use Rattle.std.proofs.lemmas.List.Elements.{Contains-append_cases, Contains-get_or}
 use Rattle.std.proofs.lemmas.Option.{same_Some, slice_get_within}
-use Rattle.grind_classes.specs.Classes.{AreApart}
 use Rattle.grind_classes.proofs.ListLemmas.{AreApart-append, Contains-nil, Contains-cases}
 use Rattle.grind_congruence.specs.declared.edge.Edge.{Edge}
 use Rattle.grind_congruence.specs.declared.forest.Join.{Join}
 use Rattle.grind_congruence.specs.declared.legs.Leg.{Leg}
 use Rattle.grind_congruence.specs.declared.legs.Leg.TheVariants.{Pass, Between}
-use Rattle.grind_congruence.specs.Edges.{Passes, Leads, Joins}
+use Rattle.grind_congruence.specs.Edges.{Passes}
 use Rattle.grind_congruence.specs.Forest.{stepped, climbed, AreSameAt, IsNeverGone, IsGoneAt, IsFirstGone, IsForest, AreJoinedBy, IsSplit, IsTreeWay, FillsLeg, Fills, IsJoinedLeg, AreJoinedLegs, time, doubled, leg_weight, weight, IsTaken}
 use Rattle.grind_congruence.proofs.EdgeLemmas.{Leads-append}
 use Rattle.grind_congruence.proofs.ForestLemmas.{stepped_gone, stepped_other, climbed_next, item_at, same_later, same_whole, passes_same, eq_true, eq_false, never_again, stays_root, is_top}
@@ -250,7 +249,7 @@ taken_split edges joins legs a b place near far way by forest is joined =
           IsTreeWay-through edges joins a b near far place it.edge one.0 three.0 by it.stands it.passes it.left it.right it.split one.2 three.2,
           three.3,
           ap (λ xs. way ++ xs) (one.4 ∙ ap (λ xs. one.0 ++ xs) (two.4 ∙ ap (λ xs. xs ++ two.1) two.2 ∙ ap (λ xs. place ∷ xs) three.4)
-          ∙ sym (append_assoc one.0 (place ∷ three.0) three.1)),
+              ∙ sym (append_assoc one.0 (place ∷ three.0) three.1)),
         )
 
     lighter : AreSplit edges joins a b place near far
@@ -260,8 +259,15 @@ taken_split edges joins legs a b place near far way by forest is joined =
         let second : doubled (time far b joins) ≤ doubled place = doubled_le (time far b joins) place (time_same joins place far b it.right) in
         let whole : doubled (suc place) ≤ doubled (time a b joins) =
         doubled_le (suc place) (time a b joins) (omega (arith, time_apart joins place a b it.within it.split)) in
-        omega (arith, first, second, whole, weight-push joins ((legs ++ Between far b ∷ []) ++ Pass place ∷ []) (Between a near),
-        weight-push joins (legs ++ Between far b ∷ []) (Pass place), weight-push joins legs (Between far b))
+        omega (
+          arith,
+          first,
+          second,
+          whole,
+          weight-push joins ((legs ++ Between far b ∷ []) ++ Pass place ∷ []) (Between a near),
+          weight-push joins (legs ++ Between far b ∷ []) (Pass place),
+          weight-push joins legs (Between far b),
+        )
 
 -- a way in a tree, and the first edges that lead there
 pub way_among : (edges : List Edge) (joins : List Join) (a b k : ℕ) (places : List ℕ) → IsTreeWay edges joins a b places → AreSameAt joins k a b

@@ -1,5 +1,5 @@
 -- What a table of keys finds.
-use Rattle.std.specs.Prelude.{◌≡◌, ℕ, suc, ◌<◌, ◌≤◌, Bool, true, false, cond, List, [], ◌∷◌, ◌++◌, Option, Some, None, All, length, slice_get, refl}
+use Rattle.std.specs.Prelude.{◌≡◌, ℕ, suc, ◌<◌, Bool, true, false, cond, List, [], ◌∷◌, ◌++◌, Some, None, length, slice_get, refl}
 use Rattle.std.specs.List.{AllZip}
 use Rattle.std.specs.HashMap.{HashMap, get, Updates}
 use Rattle.std.proofs.Common.{arith, sym, ap, ◌∙◌, subst, append_assoc}
@@ -7,9 +7,9 @@ use Rattle.std.proofs.lemmas.Option.{same_Some}
 use Rattle.std.proofs.lemmas.List.{append-nil}
 use Rattle.grind_term_graph.specs.declared.node.Node.{Node}
 use Rattle.grind_term_graph.specs.Placed.{node_eq}
-use Rattle.grind_term_graph.proofs.Nodes.{node_eq-same, node_eq-refl}
+use Rattle.grind_term_graph.proofs.Nodes.{node_eq-same}
 use Rattle.grind_classes.specs.Classes.{IsIn, IsActive, AreTogether, IsPartition}
-use Rattle.grind_congruence.specs.Congruence.{AreCongruent, Fits, IsAtRest}
+use Rattle.grind_congruence.specs.Congruence.{Fits, IsAtRest}
 use Rattle.grind_congruence.specs.Searching.{IsPair}
 use Rattle.grind_congruence.specs.Table.{IsRootOf, IsKeyOf, IsMatch, IsSoundTable, IsCovered, KeepsKeys}
 
@@ -124,13 +124,17 @@ updated_sound lists nodes old new key node n updates sound stands active args of
         let same : key ≡ other = node_eq-same key other e in
         let number : n ≡ m = same_Some n m is in
         subst (λ k. (it : Node) × (slice_get nodes m ≡ Some it) × IsActive lists m × IsMatch lists it k) same
-        (subst (λ i. (it : Node) × (slice_get nodes i ≡ Some it) × IsActive lists i × IsMatch lists it key) number
-        (node, stands, active, record {
-          head = of.head;
-          sort = of.sort;
-          has_args = args;
-          args = AllZip-weaker (IsRootOf lists) (AreTogether lists) (λ r a root. (r, root.0, root.1)) key.args node.args of.args;
-        }))
+        (subst (λ i. (it : Node) × (slice_get nodes i ≡ Some it) × IsActive lists i × IsMatch lists it key) number (
+          node,
+          stands,
+          active,
+          record {
+            head = of.head;
+            sort = of.sort;
+            has_args = args;
+            args = AllZip-weaker (IsRootOf lists) (AreTogether lists) (λ r a root. (r, root.0, root.1)) key.args node.args of.args;
+          },
+        ))
     pick false e is = sound other m is
 
 -- an empty table is sound

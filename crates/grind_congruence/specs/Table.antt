@@ -1,5 +1,5 @@
 -- The congruence table: keys of a head, a sort and the roots of arguments, each with a node.
-use Rattle.std.specs.Prelude.{◌≡◌, ℕ, List, [], Option, Some, slice_get}
+use Rattle.std.specs.Prelude.{◌≡◌, ℕ, List, [], Some, slice_get}
 use Rattle.std.specs.List.{AllZip}
 use Rattle.std.specs.HashMap.{HashMap, get}
 use Rattle.grind_term_graph.specs.declared.node.Node.{Node}

@@ -39,9 +39,9 @@ impl Model for Closure {
     ghost Value = { Congruence };
 
     ghost view = { λ a. record {
-        lists = a.classes.lists;
-        edges = a.edges;
-        marked = views a.classes.marked a.edges a.marks;
+      lists = a.classes.lists;
+      edges = a.edges;
+      marked = views a.classes.marked a.edges a.marks;
     } };
 
     ghost invariant = { λ a. IsKept a.classes a.edges a.marks × AreJoinedBy a.edges a.forest };

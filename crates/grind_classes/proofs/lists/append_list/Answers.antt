@@ -1,5 +1,5 @@
-use Rattle.std.specs.Prelude.{◌≡◌, [], ◌++◌, Some, slice_get, set}
-use Rattle.std.proofs.Common.{sym, ap, ◌∙◌}
+use Rattle.std.specs.Prelude.{◌≡◌, [], Some, slice_get, set}
+use Rattle.std.proofs.Common.{sym, ◌∙◌}
 use Rattle.std.proofs.lemmas.Option.{get_or_from_slice_get}
 use Rattle.grind_classes.specs.Classes.{members_of}
 use Rattle.grind_classes.proofs.UndoneLemmas.{put_back, appended}

@@ -1,5 +1,4 @@
 use Rattle.std.specs.Prelude.{◌≡◌, [], ◌++◌, Some, slice_get, set}
-use Rattle.std.proofs.Common.{sym, ap, ◌∙◌}
 use Rattle.std.proofs.lemmas.List.{set-set}
 use Rattle.std.proofs.lemmas.Option.{get_or_from_slice_get}
 use Rattle.grind_classes.specs.Classes.{members_of}

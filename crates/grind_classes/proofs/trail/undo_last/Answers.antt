@@ -1,4 +1,4 @@
-use Rattle.std.specs.Prelude.{◌≡◌, ◌++◌, ◌∷◌, []}
+use Rattle.std.specs.Prelude.{◌++◌, ◌∷◌, []}
 use Rattle.std.proofs.Common.{inr}
 use Rattle.grind_classes.specs.Trail.{IsTrail}
 use Rattle.grind_classes.proofs.TrailLemmas.{undone_last}

@@ -1,4 +1,4 @@
-use Rattle.std.specs.Prelude.{◌≡◌, ◌≢◌, ◌+◌, ◌-◌, ◌<◌, ◌≤◌, Some, ℕ, List, length, slice_get}
+use Rattle.std.specs.Prelude.{◌≡◌, ◌+◌, ◌-◌, ◌<◌, Some, ℕ, List, length, slice_get}
 use Rattle.std.proofs.Common.{arith, sym, ap, ◌∙◌, get_or}
 use Rattle.std.proofs.lemmas.Option.{slice_get_within}
 use Rattle.grind_congruence.specs.declared.forest.Join.{Join}

@@ -1,8 +1,3 @@
-use Rattle.std.specs.Prelude.{◌≡◌, ◌++◌, ◌∷◌, []}
-use Rattle.std.proofs.Common.{sym, subst, ap, ◌∙◌}
-use Rattle.grind_congruence.specs.declared.legs.Leg.{Leg}
-use Rattle.grind_congruence.specs.declared.legs.Leg.TheVariants.{Pass, Between}
-use Rattle.grind_congruence.specs.Forest.{IsTaken}
 use Rattle.grind_congruence.proofs.LegLemmas.{taken_pass, taken_same, taken_split, same_of}
 use Rattle.grind_congruence.proofs.legs.take_leg.Goals as goal
 

@@ -1,4 +1,4 @@
-use Rattle.std.specs.Prelude.{◌≡◌, ◌++◌, ◌∷◌, ◌<◌, []}
+use Rattle.std.specs.Prelude.{◌≡◌, ◌∷◌, ◌<◌, []}
 use Rattle.std.proofs.Common.{arith}
 use Rattle.grind_congruence.specs.declared.legs.Leg.TheVariants.{Between}
 use Rattle.grind_congruence.specs.Forest.{weight}

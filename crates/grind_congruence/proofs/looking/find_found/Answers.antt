@@ -1,4 +1,4 @@
-use Rattle.std.specs.Prelude.{◌≡◌, ℕ, Option, Some, None, IfSome, IsNone, length, refl}
+use Rattle.std.specs.Prelude.{Option, IfSome, IsNone, length, refl}
 use Rattle.std.proofs.Common.{arith, sym, subst}
 use Rattle.std.proofs.lemmas.Bool.{false≢true}
 use Rattle.grind_congruence.specs.declared.edge.Found.{Found}

@@ -4,7 +4,7 @@ use Rattle.std.proofs.Common.{sym, ◌∙◌}
 use Rattle.std.proofs.lemmas.Bool.{false≢true}
 use Rattle.grind_term_graph.specs.Placed.{node_eq}
 use Rattle.grind_classes.specs.Classes.{AreTogether}
-use Rattle.grind_congruence.proofs.TableLemmas.{found_pair, updated_sound, updated_keeps, updated_own}
+use Rattle.grind_congruence.proofs.TableLemmas.{found_pair, updated_sound, updated_keeps}
 use Rattle.grind_congruence.proofs.looking.look_at.Goals as goal
 
 pub node-node-requires : goal.node-node-requires

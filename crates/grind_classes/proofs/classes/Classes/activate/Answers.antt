@@ -1,4 +1,4 @@
-use Rattle.std.specs.Prelude.{◌≡◌, [], ◌∷◌, ◌++◌}
+use Rattle.std.specs.Prelude.{◌≡◌}
 use Rattle.std.proofs.Common.{ap, ◌∙◌}
 use Rattle.grind_classes.specs.declared.change.Change.TheVariants.{Activated}
 use Rattle.grind_classes.specs.Classes.{Grouping, IsActive}

@@ -1,8 +1,8 @@
-use Rattle.std.specs.Prelude.{◌≡◌, [], ◌∷◌, ◌++◌, set}
+use Rattle.std.specs.Prelude.{◌≡◌, [], ◌∷◌, ◌++◌}
 use Rattle.std.proofs.Common.{sym, ap, ◌∙◌}
 use Rattle.std.proofs.lemmas.List.{set_at}
 use Rattle.grind_classes.specs.declared.change.Change.TheVariants.{Joined}
-use Rattle.grind_classes.specs.Classes.{Grouping, IsIn}
+use Rattle.grind_classes.specs.Classes.{Grouping}
 use Rattle.grind_classes.specs.Trail.{IsMade}
 use Rattle.grind_classes.proofs.TrailLemmas.{marked-push, IsUndoable-push}
 use Rattle.grind_classes.proofs.classes.Classes.append.Goals as goal

@@ -1,5 +1,4 @@
-use Rattle.std.specs.Prelude.{◌≡◌}
-use Rattle.grind_classes.proofs.TrailLemmas.{IsUndoable-mark, marked-mark}
+use Rattle.grind_classes.proofs.TrailLemmas.{IsUndoable-mark}
 use Rattle.grind_classes.proofs.classes.ClassesUndo.mark.Goals as goal
 
 pub invariant_of-self-2 : goal.invariant_of-self-2

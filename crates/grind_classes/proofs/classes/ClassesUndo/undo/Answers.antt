@@ -1,5 +1,5 @@
 use Rattle.std.specs.Prelude.{◌≡◌, Some, slice_get, take, drop}
-use Rattle.std.proofs.Common.{ap, sym, ◌∙◌, get_or}
+use Rattle.std.proofs.Common.{ap, get_or}
 use Rattle.grind_classes.specs.Classes.{Grouping}
 use Rattle.grind_classes.specs.Trail.{marked_lists, rewound}
 use Rattle.grind_undo_trail.proofs.RisingLemmas.{AreRising-within}

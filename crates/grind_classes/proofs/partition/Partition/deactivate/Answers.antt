@@ -1,4 +1,3 @@
-use Rattle.std.specs.Prelude.{◌≡◌, Some, None, set, take}
 use Rattle.grind_classes.specs.Trail.{WasAlone}
 use Rattle.grind_classes.proofs.UndoneLemmas.{alone_within, AreTied-deactivated}
 use Rattle.grind_classes.proofs.partition.Partition.deactivate.Goals as goal

@@ -1,7 +1,5 @@
-use Rattle.std.specs.Prelude.{◌≡◌, ◌<◌, All, length}
-use Rattle.grind_classes.specs.Roots.{repointed}
 use Rattle.grind_classes.specs.Trail.{WasJoined}
-use Rattle.grind_classes.proofs.UndoneLemmas.{moved_within, joined_within, AreTied-parted}
+use Rattle.grind_classes.proofs.UndoneLemmas.{moved_within, AreTied-parted}
 use Rattle.grind_classes.proofs.partition.Partition.part.Goals as goal
 
 pub repoint-requires : goal.repoint-requires

@@ -7,10 +7,12 @@ use Rattle.grind_congruence.proofs.FitLemmas.{Fits-activate}
 use Rattle.grind_congruence.proofs.closure.Closure.activate.Goals as goal
 
 pub invariant_of-self-2 : goal.invariant_of-self-2
-invariant_of-self-2 c =
-    (IsKept-classes c.self.inside.classes c.activate.new.self c.self.inside.edges c.self.inside.marks c.self.invariant.0 c.activate.ensures.marked
-    (AreClassesOf-activate c.self.inside.classes.lists c.activate.new.self.lists c.self.inside.edges c.args.n c.self.invariant.0.classes c.activate.ensures.partition
-    c.in_ok-activate.ensures.active c.in_ok-activate.ensures.together), c.self.invariant.1)
+invariant_of-self-2 c = (
+  IsKept-classes c.self.inside.classes c.activate.new.self c.self.inside.edges c.self.inside.marks c.self.invariant.0 c.activate.ensures.marked
+      (AreClassesOf-activate c.self.inside.classes.lists c.activate.new.self.lists c.self.inside.edges c.args.n c.self.invariant.0.classes c.activate.ensures.partition
+      c.in_ok-activate.ensures.active c.in_ok-activate.ensures.together),
+  c.self.invariant.1,
+)
 
 pub returns-clause-fits : goal.returns-clause-fits
 returns-clause-fits c =

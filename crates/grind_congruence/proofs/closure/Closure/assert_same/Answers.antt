@@ -1,10 +1,9 @@
-use Rattle.std.specs.Prelude.{◌≡◌, ◌++◌, ◌∷◌, [], List, ℕ, length, take}
+use Rattle.std.specs.Prelude.{◌≡◌, ◌++◌, ◌∷◌, [], List, take}
 use Rattle.std.proofs.Common.{ap, sym, ◌∙◌}
 use Rattle.std.proofs.lemmas.Bool.{false≢true}
 use Rattle.std.proofs.lemmas.List.{take_at}
 use Rattle.grind_classes.specs.Classes.{Grouping, IsActive, AreTogether, IsIn}
 use Rattle.grind_congruence.specs.declared.edge.Edge.{Edge}
-use Rattle.grind_congruence.specs.declared.forest.Join.{Join}
 use Rattle.grind_congruence.specs.declared.view.Noted.{Noted}
 use Rattle.grind_congruence.specs.Congruence.{Congruence, Fits}
 use Rattle.grind_congruence.specs.Marks.{views}
@@ -39,11 +38,12 @@ invariant_of-self-in-Ok-merge c =
     let edge : Edge = record { left = c.args.a; right = c.args.b; why = c.args.why } in
     let first : IsActive c.self.inside.classes.lists c.args.a = rw lists_are c.requires.first in
     let second : IsActive c.self.inside.classes.lists c.args.b = rw lists_are c.requires.second in
-    rw (c.in_ok-push.ensures.ok, c.in-Ok.ensures.ok)
-    (IsKept-change c.self.inside.classes c.merge.new.self c.self.inside.edges (edge ∷ []) c.self.inside.marks c.self.invariant.0 c.merge.ensures.marked
-    (AreClassesOf-merge c.self.inside.classes.lists c.merge.new.self.lists c.self.inside.edges edge c.self.invariant.0.classes c.merge.ensures.partition
-    first second c.in-Ok-merge.ensures.active c.in-Ok-merge.ensures.together),
-    AreJoinedBy-push c.self.inside.edges c.self.inside.forest edge c.join_of-join.result c.self.invariant.1 c.join_of-join.ensures.join)
+    rw (c.in_ok-push.ensures.ok, c.in-Ok.ensures.ok) (
+      IsKept-change c.self.inside.classes c.merge.new.self c.self.inside.edges (edge ∷ []) c.self.inside.marks c.self.invariant.0 c.merge.ensures.marked
+          (AreClassesOf-merge c.self.inside.classes.lists c.merge.new.self.lists c.self.inside.edges edge c.self.invariant.0.classes c.merge.ensures.partition
+          first second c.in-Ok-merge.ensures.active c.in-Ok-merge.ensures.together),
+      AreJoinedBy-push c.self.inside.edges c.self.inside.forest edge c.join_of-join.result c.self.invariant.1 c.join_of-join.ensures.join,
+    )
 
 edges_back : (c : goal.After-truncate-in-Err-2) → c.truncate-in-Err.new.self ≡ c.self.inside.edges
 edges_back c =

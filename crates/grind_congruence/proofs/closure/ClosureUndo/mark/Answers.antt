@@ -1,7 +1,5 @@
-use Rattle.std.specs.Prelude.{◌≡◌, ◌∷◌, ◌++◌, [], List, length}
+use Rattle.std.specs.Prelude.{◌≡◌, ◌∷◌, ◌++◌, [], length}
 use Rattle.std.proofs.Common.{sym, ap, ◌∙◌}
-use Rattle.grind_congruence.specs.declared.view.Noted.{Noted}
-use Rattle.grind_congruence.specs.declared.view.ClosureView.{ClosureView}
 use Rattle.grind_congruence.specs.Congruence.{Congruence}
 use Rattle.grind_congruence.specs.Marks.{noted_now}
 use Rattle.grind_congruence.proofs.MarkLemmas.{IsKept-mark, views-mark, views-length}
@@ -12,9 +10,10 @@ marks_are c = rw c.len.ensures.value at c.in_ok-push.ensures.ok
 
 pub invariant_of-self-in-Ok : goal.invariant_of-self-in-Ok
 invariant_of-self-in-Ok c =
-    rw (marks_are c)
-    (IsKept-mark c.self.inside.classes c.mark.new.self c.self.inside.edges c.self.inside.marks c.self.invariant.0 c.in-Ok.ensures.marked c.in-Ok.ensures.present,
-    c.self.invariant.1)
+    rw (marks_are c) (
+      IsKept-mark c.self.inside.classes c.mark.new.self c.self.inside.edges c.self.inside.marks c.self.invariant.0 c.in-Ok.ensures.marked c.in-Ok.ensures.present,
+      c.self.invariant.1,
+    )
 
 pub returns-in-Ok-clause-place : goal.returns-in-Ok-clause-place
 returns-in-Ok-clause-place c =

@@ -1,4 +1,4 @@
-use Rattle.std.specs.Prelude.{◌≡◌, ◌<◌, Some, length, slice_get, take}
+use Rattle.std.specs.Prelude.{◌≡◌, Some, length, slice_get, take}
 use Rattle.std.proofs.Common.{arith, sym, ap, ◌∙◌, get_or}
 use Rattle.grind_congruence.specs.Congruence.{Congruence}
 use Rattle.grind_congruence.specs.Marks.{views}
@@ -35,10 +35,11 @@ pub invariant_of-self : goal.invariant_of-self
 invariant_of-self c =
     let joins_are : c.truncate-2.new.self ≡ take (get_or c.self.inside.marks c.args.mark (record { edges = 0 })).edges c.self.inside.forest =
     rw (c.as_slice.ensures.value, c.number-place.ensures) at c.truncate-2.ensures in
-    rw (edges_are c, joins_are, c.truncate-3.ensures, c.number-place.ensures)
-    (IsKept-undo c.self.inside.classes c.undo.new.self c.self.inside.edges c.self.inside.marks c.args.mark
-    (get_or c.self.inside.marks c.args.mark (record { edges = 0 })) c.self.invariant.0 (stands c) c.undo.ensures.present c.undo.ensures.marked,
-    AreJoinedBy-take c.self.inside.edges c.self.inside.forest (get_or c.self.inside.marks c.args.mark (record { edges = 0 })).edges c.self.invariant.1)
+    rw (edges_are c, joins_are, c.truncate-3.ensures, c.number-place.ensures) (
+      IsKept-undo c.self.inside.classes c.undo.new.self c.self.inside.edges c.self.inside.marks c.args.mark
+          (get_or c.self.inside.marks c.args.mark (record { edges = 0 })) c.self.invariant.0 (stands c) c.undo.ensures.present c.undo.ensures.marked,
+      AreJoinedBy-take c.self.inside.edges c.self.inside.forest (get_or c.self.inside.marks c.args.mark (record { edges = 0 })).edges c.self.invariant.1,
+    )
 
 pub returns-clause-present : goal.returns-clause-present
 returns-clause-present c =

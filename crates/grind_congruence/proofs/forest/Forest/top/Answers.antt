@@ -1,7 +1,6 @@
-use Rattle.std.specs.Prelude.{◌≡◌, ◌+◌, ◌-◌, ◌<◌, ◌≤◌, Some, length, slice_get, take}
+use Rattle.std.specs.Prelude.{◌+◌, ◌-◌, ◌<◌, length}
 use Rattle.std.proofs.Common.{arith, sym, ap, ◌∙◌}
 use Rattle.grind_congruence.specs.declared.forest.Join.{Join}
-use Rattle.grind_congruence.specs.Forest.{climbed}
 use Rattle.grind_congruence.proofs.ForestLemmas.{one_up, is_top, item_is}
 use Rattle.grind_congruence.proofs.forest.Forest.top.Goals as goal
 
