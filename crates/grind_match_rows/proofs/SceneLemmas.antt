@@ -1,5 +1,5 @@
 -- Classes of the nodes of a table: at first, and after a merge.
-use Rattle.std.specs.Prelude.{◌≡◌, ℕ, ◌<◌, ◌≤◌, ◌+◌, ◌⊎◌, ◌↔◌, List, [], ◌∷◌, All, length, Some, slice_get, slice_index_or}
+use Rattle.std.specs.Prelude.{◌≡◌, ℕ, ◌<◌, ◌+◌, ◌⊎◌, ◌↔◌, List, [], ◌∷◌, length, Some, slice_get, slice_index_or}
 use Rattle.std.proofs.Common.{arith, zero, suc, refl, sym, ap, subst, ◌∙◌, inl, inr}
 use Rattle.std.proofs.lemmas.Bool.{cases_eq}
 use Rattle.grind_term_graph.specs.declared.node.Node.{Node}
