@@ -27,9 +27,9 @@ impl<'a> Model for Query<'a> {
 
     ghost Value = { QueryData };
 
-    ghost view = { λ a. query_of (scene_of a.terms.now.nodes a.classes.now a.generations.now) a.vars.now a.most };
+    ghost view = { λ a. query_of (scene_of a.terms.now.nodes a.classes.now.lists a.generations.now) a.vars.now a.most };
 
-    ghost invariant = { λ a. IsQuery (query_of (scene_of a.terms.now.nodes a.classes.now a.generations.now) a.vars.now a.most) };
+    ghost invariant = { λ a. IsQuery (query_of (scene_of a.terms.now.nodes a.classes.now.lists a.generations.now) a.vars.now a.most) };
 }
 
 impl<'a> Query<'a> {
@@ -41,8 +41,8 @@ impl<'a> Query<'a> {
         vars: &'a [SortId],
         most: u32,
     ) -> Query<'a>
-        requires { IsScene (scene_of terms.now.nodes classes.now generations.now) }
-        ensures value { result ≡ query_of (scene_of terms.now.nodes classes.now generations.now) vars.now most }
+        requires { IsScene (scene_of terms.now.nodes classes.now.lists generations.now) }
+        ensures value { result ≡ query_of (scene_of terms.now.nodes classes.now.lists generations.now) vars.now most }
         ensures keeps { IsQuery result }
     {
         let _active = classes.is_active(NodeId::TRUE);

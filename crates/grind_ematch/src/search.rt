@@ -25,11 +25,11 @@ pub fn matches(
     theorem: u32,
     most: u32,
 ) -> Result<List<Match>, Memory>
-    requires scene { IsScene (scene_of terms.now.nodes classes.now generations.now) }
+    requires scene { IsScene (scene_of terms.now.nodes classes.now.lists generations.now) }
     requires range { theorem < length lemmas.now.theorems }
-    ensures matches { IfOk result (λ list. ListsMatches (scene_of terms.now.nodes classes.now generations.now)
+    ensures matches { IfOk result (λ list. ListsMatches (scene_of terms.now.nodes classes.now.lists generations.now)
         lemmas.now.theorems theorem most list) }
-    ensures each { IfOk result (λ list. ListsEachMatch (scene_of terms.now.nodes classes.now generations.now)
+    ensures each { IfOk result (λ list. ListsEachMatch (scene_of terms.now.nodes classes.now.lists generations.now)
         lemmas.now.theorems theorem most list) }
 {
     let chosen = &lemmas.theorems.as_slice()[theorem as usize];

@@ -56,7 +56,7 @@ fn powers(alloc: Global) -> Result<TermTable, Memory> {
 
 // Whether all nodes are active.
 fn are_active(classes: &Classes, nodes: &[NodeId]) -> bool
-    ensures { IsTrue result → All (IsActive classes.now) nodes.now }
+    ensures { IsTrue result → All (IsActive classes.now.lists) nodes.now }
 {
     let mut rest = nodes;
     while let Some((n, tail)) = rest.split_first() {

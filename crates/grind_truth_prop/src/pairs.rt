@@ -48,8 +48,8 @@ pub(crate) fn roots_of(
     known: &Known,
     classes: &Classes,
 ) -> Result<List<Couple>, Memory>
-    requires { Fits known.now classes.now }
-    ensures { IfOk result (λ roots. AllZip (AreRoots classes.now) known.now.apart roots) }
+    requires { Fits known.now classes.now.lists }
+    ensures { IfOk result (λ roots. AllZip (AreRoots classes.now.lists) known.now.apart roots) }
 {
     let mut roots = List::new(alloc);
     for pair in known.apart.as_slice() {
@@ -64,9 +64,9 @@ pub(crate) fn parted_places(
     known: &Known,
     classes: &Classes,
 ) -> Result<IndexMap<Couple, u32>, Memory>
-    requires fits { Fits known.now classes.now }
-    requires partition { IsPartition classes.now }
-    ensures { IfOk result (λ places. FindsParted known.now classes.now (λ pair. get couple_eq places pair)) }
+    requires fits { Fits known.now classes.now.lists }
+    requires partition { IsPartition classes.now.lists }
+    ensures { IfOk result (λ places. FindsParted known.now classes.now.lists (λ pair. get couple_eq places pair)) }
 {
     let roots = roots_of(alloc, known, classes)?;
     let places = places_of(alloc, roots.as_slice())?;
@@ -75,9 +75,9 @@ pub(crate) fn parted_places(
 
 /// The roots of the two.
 pub(crate) fn roots_of_pair(classes: &Classes, pair: &Couple) -> Couple
-    requires left { IsActive classes.now pair.now.left }
-    requires right { IsActive classes.now pair.now.right }
-    ensures { AreRoots classes.now pair.now result }
+    requires left { IsActive classes.now.lists pair.now.left }
+    requires right { IsActive classes.now.lists pair.now.right }
+    ensures { AreRoots classes.now.lists pair.now result }
 {
     Couple {
         left: classes.root(pair.left),

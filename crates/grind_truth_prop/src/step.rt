@@ -25,11 +25,11 @@ use std::alloc::Global;
 ///
 /// `Memory` where memory was wanted and there was none.
 pub fn truth_step(alloc: Global, known: &Known, classes: &Classes) -> Result<TruthStep, Memory>
-    requires { Fits known.now classes.now }
-    ensures step { IfOk result (λ step. IsStep known.now classes.now step) }
+    requires { Fits known.now classes.now.lists }
+    ensures step { IfOk result (λ step. IsStep known.now classes.now.lists step) }
     ensures wants { IfOk result (λ step. (n : ℕ) → (step ≡ TruthStep.Wants n)
-        ↔ (NothingFollows known.now classes.now × IsWanted known.now classes.now n)) }
-    ensures rest { IfOk result (λ step. (step ≡ TruthStep.Rest) ↔ IsAtRest known.now classes.now) }
+        ↔ (NothingFollows known.now classes.now.lists × IsWanted known.now classes.now.lists n)) }
+    ensures rest { IfOk result (λ step. (step ≡ TruthStep.Rest) ↔ IsAtRest known.now classes.now.lists) }
 {
     let _active = classes.is_active(NodeId::TRUE);
     let step = step_at_classes(alloc, known, classes)?;
@@ -38,9 +38,9 @@ pub fn truth_step(alloc: Global, known: &Known, classes: &Classes) -> Result<Tru
 
 /// The step, whichever it is.
 fn step_at_classes(alloc: Global, known: &Known, classes: &Classes) -> Result<TruthStep, Memory>
-    requires fits { Fits known.now classes.now }
-    requires partition { IsPartition classes.now }
-    ensures { IfOk result (λ step. IsStep known.now classes.now step) }
+    requires fits { Fits known.now classes.now.lists }
+    requires partition { IsPartition classes.now.lists }
+    ensures { IfOk result (λ step. IsStep known.now classes.now.lists step) }
 {
     if let Some(it) = first_classed(known, classes) {
         return Ok(TruthStep::Classed {
@@ -59,10 +59,10 @@ fn step_at_classes(alloc: Global, known: &Known, classes: &Classes) -> Result<Tr
 
 /// The step, where it is not one of the class of `True` or `False` nor of the sides of a known equation.
 fn step_at_equations(alloc: Global, known: &Known, classes: &Classes) -> Result<TruthStep, Memory>
-    requires fits { Fits known.now classes.now }
-    requires partition { IsPartition classes.now }
-    requires before { NoneAtClasses known.now classes.now }
-    ensures { IfOk result (λ step. IsStep known.now classes.now step) }
+    requires fits { Fits known.now classes.now.lists }
+    requires partition { IsPartition classes.now.lists }
+    requires before { NoneAtClasses known.now classes.now.lists }
+    ensures { IfOk result (λ step. IsStep known.now classes.now.lists step) }
 {
     let parted = parted_places(alloc, known, classes)?;
     if let Some(it) = first_equation(known, classes, &parted) {

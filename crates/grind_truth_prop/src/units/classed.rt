@@ -20,8 +20,8 @@ pub struct ClassTruth {
 
 /// Whether the two nodes, the first of them active, are in one class.
 fn is_with(classes: &Classes, n: NodeId, other: NodeId) -> bool
-    requires { IsActive classes.now n }
-    ensures { IsTrue result ↔ AreTogether classes.now n other }
+    requires { IsActive classes.now.lists n }
+    ensures { IsTrue result ↔ AreTogether classes.now.lists n other }
 {
     if !classes.is_active(other) {
         return false;
@@ -31,8 +31,8 @@ fn is_with(classes: &Classes, n: NodeId, other: NodeId) -> bool
 
 /// The truth of the class of an unknown node, if it is that of `True` or of `False`.
 pub fn truth_of_class(known: &Known, classes: &Classes, n: NodeId) -> Option<bool>
-    ensures found { IfSome result (λ value. IsClassed known.now classes.now n value) }
-    ensures none { IsNone result → IsNotClassed known.now classes.now n }
+    ensures found { IfSome result (λ value. IsClassed known.now classes.now.lists n value) }
+    ensures none { IsNone result → IsNotClassed known.now classes.now.lists n }
 {
     if !classes.is_active(n) {
         return None;
@@ -51,9 +51,9 @@ pub fn truth_of_class(known: &Known, classes: &Classes, n: NodeId) -> Option<boo
 
 /// The first unknown node in the class of `True` or `False`.
 pub fn first_classed(known: &Known, classes: &Classes) -> Option<ClassTruth>
-    requires { Fits known.now classes.now }
-    ensures found { IfSome result (λ it. IsClassed known.now classes.now it.node it.value) }
-    ensures none { IsNone result → NoneClassed known.now classes.now }
+    requires { Fits known.now classes.now.lists }
+    ensures found { IfSome result (λ it. IsClassed known.now classes.now.lists it.node it.value) }
+    ensures none { IsNone result → NoneClassed known.now classes.now.lists }
 {
     for number in 0..known.terms.len() {
         let node = NodeId::new(number);

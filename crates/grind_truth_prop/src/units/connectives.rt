@@ -119,10 +119,10 @@ fn forced_among(known: &Known, joint: &Joint, n: NodeId, it: &Connective) -> Opt
 
 /// What follows at the connective of that number, if it is an active one.
 pub fn finding_at(known: &Known, classes: &Classes, n: NodeId) -> Option<Finding>
-    requires fits { Fits known.now classes.now }
+    requires fits { Fits known.now classes.now.lists }
     requires within { n < length known.now.terms.nodes }
-    ensures found { IfSome result (λ finding. IsFinding known.now classes.now n finding) }
-    ensures none { IsNone result → SettlesNothing known.now classes.now n }
+    ensures found { IfSome result (λ finding. IsFinding known.now classes.now.lists n finding) }
+    ensures none { IsNone result → SettlesNothing known.now classes.now.lists n }
 {
     if !classes.is_active(n) {
         return None;
@@ -147,9 +147,9 @@ pub fn finding_at(known: &Known, classes: &Classes, n: NodeId) -> Option<Finding
 
 /// The first connective at which something follows.
 pub fn first_settled(known: &Known, classes: &Classes) -> Option<Settled>
-    requires { Fits known.now classes.now }
-    ensures found { IfSome result (λ it. IsFinding known.now classes.now it.node it.finding) }
-    ensures none { IsNone result → NoneSettled known.now classes.now }
+    requires { Fits known.now classes.now.lists }
+    ensures found { IfSome result (λ it. IsFinding known.now classes.now.lists it.node it.finding) }
+    ensures none { IsNone result → NoneSettled known.now classes.now.lists }
 {
     for number in 0..known.terms.len() {
         let node = NodeId::new(number);

@@ -40,12 +40,12 @@ fn parted_place(
     parted: &IndexMap<Couple, u32>,
     sides: &Couple,
 ) -> Option<u32>
-    requires partition { IsPartition classes.now }
-    requires parted { FindsParted known.now classes.now (λ pair. get couple_eq parted.now pair) }
-    requires left { IsActive classes.now sides.now.left }
-    requires right { IsActive classes.now sides.now.right }
-    ensures found { IfSome result (λ place. IsPartedPlace known.now classes.now sides.now.left sides.now.right place) }
-    ensures none { IsNone result → AreNotParted known.now classes.now sides.now.left sides.now.right }
+    requires partition { IsPartition classes.now.lists }
+    requires parted { FindsParted known.now classes.now.lists (λ pair. get couple_eq parted.now pair) }
+    requires left { IsActive classes.now.lists sides.now.left }
+    requires right { IsActive classes.now.lists sides.now.right }
+    ensures found { IfSome result (λ place. IsPartedPlace known.now classes.now.lists sides.now.left sides.now.right place) }
+    ensures none { IsNone result → AreNotParted known.now classes.now.lists sides.now.left sides.now.right }
 {
     let roots = roots_of_pair(classes, sides);
     if let Some(place) = place_of(parted, &roots) {
@@ -65,12 +65,12 @@ pub fn equated_at(
     parted: &IndexMap<Couple, u32>,
     n: NodeId,
 ) -> Option<Equated>
-    requires fits { Fits known.now classes.now }
-    requires partition { IsPartition classes.now }
-    requires parted { FindsParted known.now classes.now (λ pair. get couple_eq parted.now pair) }
+    requires fits { Fits known.now classes.now.lists }
+    requires partition { IsPartition classes.now.lists }
+    requires parted { FindsParted known.now classes.now.lists (λ pair. get couple_eq parted.now pair) }
     requires within { n < length known.now.terms.nodes }
-    ensures found { IfSome result (λ equated. IsEquated known.now classes.now n equated) }
-    ensures none { IsNone result → HasNoEquation known.now classes.now n }
+    ensures found { IfSome result (λ equated. IsEquated known.now classes.now.lists n equated) }
+    ensures none { IsNone result → HasNoEquation known.now classes.now.lists n }
 {
     if !classes.is_active(n) {
         return None;
@@ -96,11 +96,11 @@ pub fn first_equation(
     classes: &Classes,
     parted: &IndexMap<Couple, u32>,
 ) -> Option<Equation>
-    requires fits { Fits known.now classes.now }
-    requires partition { IsPartition classes.now }
-    requires parted { FindsParted known.now classes.now (λ pair. get couple_eq parted.now pair) }
-    ensures found { IfSome result (λ it. IsEquated known.now classes.now it.node it.equated) }
-    ensures none { IsNone result → NoEquation known.now classes.now }
+    requires fits { Fits known.now classes.now.lists }
+    requires partition { IsPartition classes.now.lists }
+    requires parted { FindsParted known.now classes.now.lists (λ pair. get couple_eq parted.now pair) }
+    ensures found { IfSome result (λ it. IsEquated known.now classes.now.lists it.node it.equated) }
+    ensures none { IsNone result → NoEquation known.now classes.now.lists }
 {
     for number in 0..known.terms.len() {
         let node = NodeId::new(number);

@@ -23,12 +23,12 @@ fn has_to_join(
     n: NodeId,
     sides: &Couple,
 ) -> bool
-    requires fits { Fits known.now classes.now }
+    requires fits { Fits known.now classes.now.lists }
     requires same { Finds (λ pair. get couple_eq same.now pair) known.now.same }
     requires equation { IsEquation known.now.terms.nodes n sides.now.left sides.now.right }
-    ensures yes { IsTrue result → HasToJoin known.now classes.now n sides.now.left sides.now.right }
+    ensures yes { IsTrue result → HasToJoin known.now classes.now.lists n sides.now.left sides.now.right }
     ensures no { result ≡ false → KnownToHold known.now n
-        → AreTogether classes.now sides.now.left sides.now.right ⊎ Contains known.now.same sides.now }
+        → AreTogether classes.now.lists sides.now.left sides.now.right ⊎ Contains known.now.same sides.now }
 {
     if !holds(known, n) {
         return false;
@@ -59,12 +59,12 @@ pub fn has_sides(
     apart: &IndexMap<Couple, u32>,
     n: NodeId,
 ) -> bool
-    requires fits { Fits known.now classes.now }
+    requires fits { Fits known.now classes.now.lists }
     requires within { n < length known.now.terms.nodes }
     requires same { Finds (λ pair. get couple_eq same.now pair) known.now.same }
     requires apart { Finds (λ pair. get couple_eq apart.now pair) known.now.apart }
-    ensures yes { IsTrue result → HasSides known.now classes.now n }
-    ensures no { result ≡ false → HasNoSides known.now classes.now n }
+    ensures yes { IsTrue result → HasSides known.now classes.now.lists n }
+    ensures no { result ≡ false → HasNoSides known.now classes.now.lists n }
 {
     let Some(sides) = sides_of(&known.terms, n) else {
         return false;
@@ -82,11 +82,11 @@ pub fn first_sides(
     same: &IndexMap<Couple, u32>,
     apart: &IndexMap<Couple, u32>,
 ) -> Option<NodeId>
-    requires fits { Fits known.now classes.now }
+    requires fits { Fits known.now classes.now.lists }
     requires same { Finds (λ pair. get couple_eq same.now pair) known.now.same }
     requires apart { Finds (λ pair. get couple_eq apart.now pair) known.now.apart }
-    ensures found { IfSome result (λ node. HasSides known.now classes.now node) }
-    ensures none { IsNone result → NoSides known.now classes.now }
+    ensures found { IfSome result (λ node. HasSides known.now classes.now.lists node) }
+    ensures none { IsNone result → NoSides known.now classes.now.lists }
 {
     for number in 0..known.terms.len() {
         let node = NodeId::new(number);

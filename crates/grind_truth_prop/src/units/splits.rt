@@ -47,10 +47,10 @@ fn first_unknown(known: &Known, it: &Connective) -> Option<NodeId>
 
 /// Whether the active connective is an equation of two nodes in one class.
 fn has_sides_together(known: &Known, classes: &Classes, n: NodeId, it: &Connective) -> bool
-    requires fits { Fits known.now classes.now }
-    requires active { IsActive classes.now n }
+    requires fits { Fits known.now classes.now.lists }
+    requires active { IsActive classes.now.lists n }
     requires connective { IsConnectiveOf known.now.terms.nodes n it.now }
-    ensures { IsTrue result ↔ HasSidesTogether classes.now it.now.head (args_of it.now.head it.now.first it.now.second) }
+    ensures { IsTrue result ↔ HasSidesTogether classes.now.lists it.now.head (args_of it.now.head it.now.first it.now.second) }
 {
     if it.head != Head::Eq {
         return false;
@@ -60,10 +60,10 @@ fn has_sides_together(known: &Known, classes: &Classes, n: NodeId, it: &Connecti
 
 /// The first unknown argument of the known connective of that number, if it is one that is not fixed.
 pub fn unfixed_at(known: &Known, classes: &Classes, n: NodeId) -> Option<NodeId>
-    requires fits { Fits known.now classes.now }
+    requires fits { Fits known.now classes.now.lists }
     requires known { IsKnown known.now n }
-    ensures found { IfSome result (λ m. IsUnfixed known.now classes.now n m) }
-    ensures none { IsNone result → IsFixedIfKnown known.now classes.now n }
+    ensures found { IfSome result (λ m. IsUnfixed known.now classes.now.lists n m) }
+    ensures none { IsNone result → IsFixedIfKnown known.now classes.now.lists n }
 {
     let Some(it) = connective_at(&known.terms, n) else {
         return None;
@@ -83,11 +83,11 @@ pub fn unfixed_at(known: &Known, classes: &Classes, n: NodeId) -> Option<NodeId>
 
 /// Whether the active node is a connective, an equation or a comparison with another node in its class.
 fn shares_class(known: &Known, classes: &Classes, n: NodeId) -> bool
-    requires fits { Fits known.now classes.now }
-    requires partition { IsPartition classes.now }
-    requires unknown { IsUnknown known.now classes.now n }
-    ensures yes { IsTrue result → SharesClass known.now classes.now n }
-    ensures no { result ≡ false → IsAloneIfUnknown known.now classes.now n }
+    requires fits { Fits known.now classes.now.lists }
+    requires partition { IsPartition classes.now.lists }
+    requires unknown { IsUnknown known.now classes.now.lists n }
+    ensures yes { IsTrue result → SharesClass known.now classes.now.lists n }
+    ensures no { result ≡ false → IsAloneIfUnknown known.now classes.now.lists n }
 {
     if !can_be_tried(known.terms.node(n).head) {
         return false;
@@ -97,10 +97,10 @@ fn shares_class(known: &Known, classes: &Classes, n: NodeId) -> bool
 
 /// The formula whose truth is to be tried at that node, if there is one.
 pub fn wanted_at(known: &Known, classes: &Classes, n: NodeId) -> Option<NodeId>
-    requires fits { Fits known.now classes.now }
-    requires partition { IsPartition classes.now }
-    ensures found { IfSome result (λ m. IsWantedAt known.now classes.now n m) }
-    ensures none { IsNone result → WantsNothing known.now classes.now n }
+    requires fits { Fits known.now classes.now.lists }
+    requires partition { IsPartition classes.now.lists }
+    ensures found { IfSome result (λ m. IsWantedAt known.now classes.now.lists n m) }
+    ensures none { IsNone result → WantsNothing known.now classes.now.lists n }
 {
     if is_known(known, n) {
         return unfixed_at(known, classes, n);
@@ -116,10 +116,10 @@ pub fn wanted_at(known: &Known, classes: &Classes, n: NodeId) -> Option<NodeId>
 
 /// The formula whose truth is to be tried, at the first node at which there is one.
 pub fn first_wanted(known: &Known, classes: &Classes) -> Option<NodeId>
-    requires fits { Fits known.now classes.now }
-    requires partition { IsPartition classes.now }
-    ensures found { IfSome result (λ m. IsWanted known.now classes.now m) }
-    ensures none { IsNone result → NoneWanted known.now classes.now }
+    requires fits { Fits known.now classes.now.lists }
+    requires partition { IsPartition classes.now.lists }
+    ensures found { IfSome result (λ m. IsWanted known.now classes.now.lists m) }
+    ensures none { IsNone result → NoneWanted known.now classes.now.lists }
 {
     for number in 0..known.terms.len() {
         let node = NodeId::new(number);

@@ -10,10 +10,10 @@ pub matches_of-requires : goal.matches_of-requires
 matches_of-requires c = all_bound c.new-query.result c.index-as_slice-theorem.result c.in_ok-list.list c.in_ok-list.ensures
 
 scene_is : (c : goal.In_ok-found) →
-    c.new-query.result.scene ≡ scene_of c.args.terms.now.nodes c.args.classes.now c.args.generations.now
+    c.new-query.result.scene ≡ scene_of c.args.terms.now.nodes c.args.classes.now.lists c.args.generations.now
 scene_is c =
     ap (λ (q : QueryData). q.scene) c.new-query.ensures.value
-    ∙ ap (λ (list : List ℕ). scene_of c.args.terms.now.nodes c.args.classes.now list) c.as_slice-2.ensures.value
+    ∙ ap (λ (list : List ℕ). scene_of c.args.terms.now.nodes c.args.classes.now.lists list) c.as_slice-2.ensures.value
 
 vars_are : (c : goal.In_ok-found) → c.new-query.result.vars ≡ c.index-as_slice-theorem.result.vars
 vars_are c =

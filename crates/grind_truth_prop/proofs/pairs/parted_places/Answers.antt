@@ -5,5 +5,5 @@ use Rattle.grind_truth_prop.proofs.pairs.parted_places.Goals as goal
 
 pub returns : goal.returns
 returns c =
-    finds_parted c.args.known.now c.args.classes.now c.in_ok-roots.roots (λ pair. get couple_eq c.in_ok-places.places pair)
+    finds_parted c.args.known.now c.args.classes.now.lists c.in_ok-roots.roots (λ pair. get couple_eq c.in_ok-places.places pair)
     c.requires.partition c.in_ok-roots.ensures (rw c.as_slice.ensures.value at c.in_ok-places.ensures)

@@ -12,7 +12,7 @@ loop-pair-preserved c =
     let there : slice_get c.as_slice-pair-items.result.now c.loop-pair.pair-index ≡ Some c.pair-item.result =
     slice_get_read c.as_slice-pair-items.result.now (length c.as_slice-pair-items.result.now) c.loop-pair.pair-index c.pair-item.result
     refl (omega arith) c.pair-item.is in
-    zip_more (AreRoots c.args.classes.now) c.args.known.now.apart c.loop-pair.roots c.push.new.self c.loop-pair.pair-index
+    zip_more (AreRoots c.args.classes.now.lists) c.args.known.now.apart c.loop-pair.roots c.push.new.self c.loop-pair.pair-index
     c.pair-item.result c.roots_of_pair.result
     (subst (λ (xs : List Couple). slice_get xs c.loop-pair.pair-index ≡ Some c.pair-item.result) items there)
     c.loop-pair.invariant c.roots_of_pair.ensures c.in_ok-push.ensures.ok

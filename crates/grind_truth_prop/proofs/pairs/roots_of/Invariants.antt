@@ -4,4 +4,4 @@ use Rattle.grind_truth_prop.specs.Pairs.{AreRoots}
 use Rattle.grind_truth_prop.proofs.pairs.roots_of.Given as goal
 
 abbrev pub invariant-loop-pair : goal.invariant-loop-pair
-invariant-loop-pair l = AllZip (AreRoots l.classes) (take l.pair-index l.known.apart) l.roots
+invariant-loop-pair l = AllZip (AreRoots l.classes.lists) (take l.pair-index l.known.apart) l.roots

@@ -7,10 +7,10 @@ use Rattle.grind_truth_prop.proofs.units.classed.first_classed.Goals as goal
 
 pub loop-number-preserved : goal.loop-number-preserved
 loop-number-preserved c =
-    below_next (IsNotClassed c.args.known.now c.args.classes.now) c.loop-number.number c.loop-number.invariant
+    below_next (IsNotClassed c.args.known.now c.args.classes.now.lists) c.loop-number.number c.loop-number.invariant
     (rw c.new-node.ensures at (c.in_default.ensures.none refl))
 
 pub returns-clause-none : goal.returns-clause-none
 returns-clause-none c = λ _.
-    none_classed c.args.known.now c.args.classes.now (length c.args.known.now.terms.nodes) refl c.requires
+    none_classed c.args.known.now c.args.classes.now.lists (length c.args.known.now.terms.nodes) refl c.requires
     (λ k less. c.loop-number.invariant k (omega (arith, less)))

@@ -5,10 +5,10 @@ use Rattle.grind_truth_prop.proofs.TermLemmas.{sides_active}
 use Rattle.grind_truth_prop.proofs.units.sides.has_to_join.Goals as goal
 
 pub same-requires-clause-first : goal.same-requires-clause-first
-same-requires-clause-first c = (sides_active c.args.known.now c.args.classes.now c.args.n c.args.sides.now.left c.args.sides.now.right c.requires.fits (c.requires.fits.known_active c.args.n (inl (c.if-not-holds.ensures.0 refl))) c.requires.equation).0
+same-requires-clause-first c = (sides_active c.args.known.now c.args.classes.now.lists c.args.n c.args.sides.now.left c.args.sides.now.right c.requires.fits (c.requires.fits.known_active c.args.n (inl (c.if-not-holds.ensures.0 refl))) c.requires.equation).0
 
 pub same-requires-clause-second : goal.same-requires-clause-second
-same-requires-clause-second c = (sides_active c.args.known.now c.args.classes.now c.args.n c.args.sides.now.left c.args.sides.now.right c.requires.fits (c.requires.fits.known_active c.args.n (inl (c.if-not-holds.ensures.0 refl))) c.requires.equation).1
+same-requires-clause-second c = (sides_active c.args.known.now c.args.classes.now.lists c.args.n c.args.sides.now.left c.args.sides.now.right c.requires.fits (c.requires.fits.known_active c.args.n (inl (c.if-not-holds.ensures.0 refl))) c.requires.equation).1
 
 pub returns-clause-no : goal.returns-clause-no
 returns-clause-no c = λ no _.

@@ -13,11 +13,11 @@ pub returns-clause-yes : goal.returns-clause-yes
 returns-clause-yes c = λ long. record {
   unknown = c.requires.unknown;
   kind = and_some _ (λ (it : Node). CanBeTried it.head) c.node.result.now c.node.ensures.value (c.if-not-can_be_tried.ensures.0 refl);
-  shared = other_together c.args.classes.now c.root.result c.args.n c.requires.partition c.root.ensures.within
+  shared = other_together c.args.classes.now.lists c.root.result c.args.n c.requires.partition c.root.ensures.within
       (subst (λ (ms : List ℕ). 1 < length ms) c.members.ensures.value (ltb-true 1 (length c.members.result.now) long));
 }
 
 pub returns-clause-no : goal.returns-clause-no
 returns-clause-no c = λ short unknown kind other together.
-    alone_together c.args.classes.now c.root.result c.args.n other c.requires.partition c.root.ensures.within
+    alone_together c.args.classes.now.lists c.root.result c.args.n other c.requires.partition c.root.ensures.within
     (subst (λ (ms : List ℕ). length ms ≤ 1) c.members.ensures.value (ltb-false 1 (length c.members.result.now) short)) together

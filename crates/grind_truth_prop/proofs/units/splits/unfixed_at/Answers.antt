@@ -9,19 +9,19 @@ use Rattle.grind_truth_prop.proofs.units.splits.unfixed_at.Goals as goal
 
 pub returns-then-not-can_have-clause-none : goal.returns-then-not-can_have-clause-none
 returns-then-not-can_have-clause-none c = λ _.
-    fixed_by_marks c.args.known.now c.args.classes.now c.args.n c.in-Some.it c.requires.fits c.requires.known c.in-Some.ensures.found
+    fixed_by_marks c.args.known.now c.args.classes.now.lists c.args.n c.in-Some.it c.requires.fits c.requires.known c.in-Some.ensures.found
     c.arguments_of-joint.result c.arguments_of-joint.ensures.joint c.arguments_of-joint.ensures.blank false
     (must_be_false c.arguments_of-joint.result Whole (λ h. false≢true (c.if-not-can_have.ensures.1 h)))
 
 pub returns-then-not-can_have-2-clause-none : goal.returns-then-not-can_have-2-clause-none
 returns-then-not-can_have-2-clause-none c = λ _.
-    fixed_by_marks c.args.known.now c.args.classes.now c.args.n c.in-Some.it c.requires.fits c.requires.known c.in-Some.ensures.found
+    fixed_by_marks c.args.known.now c.args.classes.now.lists c.args.n c.in-Some.it c.requires.fits c.requires.known c.in-Some.ensures.found
     c.arguments_of-joint.result c.arguments_of-joint.ensures.joint c.arguments_of-joint.ensures.blank true
     (must_be_true c.arguments_of-joint.result Whole (λ h. false≢true (c.if-not-can_have-2.ensures.1 h)))
 
 pub returns-clause-found : goal.returns-clause-found
 returns-clause-found c =
-    if_some_of c.first_unknown.result c.first_unknown.ensures.found (IsUnfixed c.args.known.now c.args.classes.now c.args.n)
-    (unfixed c.args.known.now c.args.classes.now c.args.n c.in-Some.it c.requires.fits c.requires.known c.in-Some.ensures.found
+    if_some_of c.first_unknown.result c.first_unknown.ensures.found (IsUnfixed c.args.known.now c.args.classes.now.lists c.args.n)
+    (unfixed c.args.known.now c.args.classes.now.lists c.args.n c.in-Some.it c.requires.fits c.requires.known c.in-Some.ensures.found
     c.arguments_of-joint.result c.arguments_of-joint.ensures.joint c.arguments_of-joint.ensures.blank
     (c.if-not-can_have.ensures.0 refl) (c.if-not-can_have-2.ensures.0 refl) (λ h. false≢true (c.if-has_sides_together.ensures.1 h)))
