@@ -1,7 +1,7 @@
 use Rattle.std.specs.Prelude.{◌≡◌, ℕ, ◌<◌, List, length}
 use Rattle.std.proofs.Common.{arith, sym, ap, ◌∙◌, subst}
 use Rattle.grind_term_graph.specs.Terms.{Terms}
-use Rattle.grind_classes.specs.Classes.{IsActive}
+use Rattle.grind_classes.specs.Classes.{IsActive, AreTogether}
 use Rattle.grind_goal_rows.proofs.explain_tests.explanation_of.Goals as goal
 
 pub same-requires-clause-first : goal.same-requires-clause-first
@@ -21,3 +21,7 @@ same-requires-clause-second c =
 
 pub explain-requires-clause-reasons : goal.explain-requires-clause-reasons
 explain-requires-clause-reasons c = λ count _. c.in_ok-proof.ensures.reasons count
+
+pub explain-requires-clause-together : goal.explain-requires-clause-together
+explain-requires-clause-together c =
+    subst (λ (lists : List (List ℕ)). AreTogether lists c.args.a c.args.b) c.classes.ensures.value (c.same.ensures.0 c.if-not-same.false)
