@@ -1,11 +1,6 @@
-//! Single calls on terms, classes, closures, theorems and signatures, compared with what they must answer: those that no case of
-//! `grind_rows` shows.
+//! Single calls on terms, theorems and signatures, compared with what they must answer: those that no case of `grind_rows` shows.
 #![tactic(auto)]
 
-#[cfg(test)]
-mod class_tests;
-#[cfg(test)]
-mod closure_tests;
 #[cfg(test)]
 mod signature_tests;
 #[cfg(test)]

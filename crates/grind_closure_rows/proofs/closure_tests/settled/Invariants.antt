@@ -1,5 +1,5 @@
 use Rattle.grind_congruence.specs.Congruence.{Fits}
-use Rattle.grind_term_rows.proofs.closure_tests.settled.Given as goal
+use Rattle.grind_closure_rows.proofs.closure_tests.settled.Given as goal
 
 abbrev pub invariant-loop : goal.invariant-loop
 invariant-loop l = Fits l.closure.lists l.fn.terms.nodes

@@ -1,7 +1,7 @@
 use Rattle.std.specs.Prelude.{◌≡◌, ◌∷◌}
 use Rattle.std.proofs.lemmas.List.Elements.{All-cons}
 use Rattle.grind_classes.specs.Classes.{IsActive}
-use Rattle.grind_term_rows.proofs.closure_tests.are_active.Goals as goal
+use Rattle.grind_closure_rows.proofs.closure_tests.are_active.Goals as goal
 
 pub loop-n-preserved : goal.loop-n-preserved
 loop-n-preserved c = λ rest.

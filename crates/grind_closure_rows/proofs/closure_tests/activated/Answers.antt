@@ -3,7 +3,7 @@ use Rattle.std.proofs.Common.{sym, ◌∙◌, subst}
 use Rattle.std.proofs.lemmas.Option.{same_Some}
 use Rattle.grind_term_graph.specs.declared.node.Node.{Node}
 use Rattle.grind_classes.specs.Classes.{IsActive}
-use Rattle.grind_term_rows.proofs.closure_tests.activated.Goals as goal
+use Rattle.grind_closure_rows.proofs.closure_tests.activated.Goals as goal
 
 pub activate-requires-clause-args : goal.activate-requires-clause-args
 activate-requires-clause-args c = λ node stands.

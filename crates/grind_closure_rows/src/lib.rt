@@ -1,0 +1,7 @@
+//! Single calls on classes and closures, compared with what they must answer: those that no case of `grind_rows` shows.
+#![tactic(auto)]
+
+#[cfg(test)]
+mod class_tests;
+#[cfg(test)]
+mod closure_tests;
