@@ -1,11 +1,10 @@
 -- Marks, and truths of formulas over the classes of a table's nodes.
-use Rattle.std.specs.Prelude.{◌≡◌, ℕ, ◌<◌, ◌+◌, ◌⊎◌, ◌↔◌, Bool, List, [], ◌∷◌, ◌++◌, All, length, Some, slice_get, slice_index_or}
+use Rattle.std.specs.Prelude.{◌≡◌, ℕ, ◌<◌, ◌+◌, Bool, List, [], ◌∷◌, ◌++◌, All, length, Some, slice_get, slice_index_or}
 use Rattle.std.proofs.Common.{arith, zero, suc, refl, sym, ap, subst, ◌∙◌, inl, inr}
 use Rattle.std.proofs.lemmas.Bool.{cases_eq}
 use Rattle.std.proofs.lemmas.List.{length-append}
 use Rattle.std.proofs.lemmas.List.Elements.{All-nil}
 use Rattle.std.proofs.lemmas.Option.{slice_get_within}
-use Rattle.grind_classes.specs.Classes.{IsActive}
 use Rattle.grind_truth_prop.specs.Given.{ArePaired, Fits}
 use Rattle.grind_truth_prop.specs.Laws.{HasTable}
 use Rattle.grind_truth_prop.specs.declared.types.Known.{Known}
@@ -24,17 +23,24 @@ last_item : (marks : List Bool) (x : Bool) → slice_get (marks ++ x ∷ []) (le
 last_item [] x = refl
 last_item (first ∷ rest) x = last_item rest x
 
+mark_at : (marked : ℕ → Bool) (n : ℕ) (old : List Bool) (x : Bool) → AreMarks marked n old → x ≡ marked n
+    → (k : ℕ) → k < n + 1 → slice_get (old ++ x ∷ []) k ≡ Some (marked k)
+mark_at marked n old x h is k less =
+    let long : length old ≡ n = h.long in
+    elim (cases_eq k n) [
+      | inl same ↦ ap (slice_get (old ++ x ∷ [])) (same ∙ sym long) ∙ last_item old x ∙ ap (λ (b : Bool). Some b) (is ∙ ap marked (sym same))
+      | inr other ↦ before_last old x k (omega (arith, less, other, long)) ∙ h.each k (omega (arith, less, other))
+    ]
+
 -- the mark of one more node
 pub next_mark : (marked : ℕ → Bool) (n : ℕ) (old new : List Bool) (x : Bool) → AreMarks marked n old → x ≡ marked n
     → new ≡ old ++ x ∷ [] → AreMarks marked (n + 1) new
 next_mark marked n old new x h is e =
-    let long = h.long in
+    let before : length old ≡ n = h.long in
+    let size : length new ≡ length old + 1 = ap length e ∙ length-append old (x ∷ []) in
     record {
-      long = ap length e ∙ length-append old (x ∷ []) ∙ ap (λ k. k + 1) long;
-      each = λ k less. ap (λ (marks : List Bool). slice_get marks k) e ∙ elim (cases_eq k n) [
-        | inl same ↦ ap (slice_get (old ++ x ∷ [])) (same ∙ sym long) ∙ last_item old x ∙ ap Some (is ∙ ap marked (sym same))
-        | inr other ↦ before_last old x k (omega (arith, less, other, long)) ∙ h.each k (omega (arith, less, other))
-      ];
+      long = omega (arith, size, before);
+      each = λ k less. ap (λ (marks : List Bool). slice_get marks k) e ∙ mark_at marked n old x h is k less;
     }
 
 fit_by : (known : Known) (lists : List (List ℕ)) → AreClassesOf known.terms.nodes lists → HasTable known
