@@ -14,7 +14,7 @@ import subprocess
 import sys
 import tempfile
 
-ROUNDS = 7
+ROUNDS = 15
 DEPTH = 125
 
 
@@ -108,8 +108,9 @@ def main():
                 with open(path, "w", encoding="ascii") as file:
                     file.write(text)
                 taken = min(once(program, word, path, want) for _ in range(ROUNDS))
+                answer = f"{int(want):,}" if want.isdigit() else want
                 growth = f"{taken / half:.2f}" if half else ""
-                print(f"| {name} | {size:,} | {want} | {taken:.4f} | {growth} |", flush=True)
+                print(f"| {name} | {size:,} | {answer} | {taken:.6f} | {growth} |", flush=True)
                 half = taken
 
 
