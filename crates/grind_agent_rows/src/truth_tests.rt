@@ -1,13 +1,11 @@
 //! The next consequence of known truths, over a disjunction of two constants and classes of one node each.
-ghost use Rattle.std.specs.Prelude.{◌≡◌, ◌↔◌, ◌<◌, ℕ, List, [], All, length, Some, IsTrue, IfOk};
+ghost use Rattle.std.specs.Prelude.{◌≡◌, Some};
 ghost use Rattle.grind_term_graph.specs.Terms.{prop, sort_at};
-ghost use Rattle.grind_classes.specs.Classes.{IsActive, AreTogether};
-ghost use Rattle.grind_agent_rows.specs.Alone.{AreAlone};
 
-use grind_classes::Classes;
-use grind_outside::{List, Memory};
+use grind_outside::List;
+use grind_scenes::{all_alone, are_marked_formulas, is_formula, marks_of, next_step};
 use grind_term_graph::{Args, Head, Node, NodeId, SortId, TermRefusal, TermTable};
-use grind_truth_prop::{Known, TruthStep, truth_step};
+use grind_truth_prop::{Known, TruthStep};
 use std::alloc::Global;
 use std::test::Fail;
 
@@ -21,13 +19,6 @@ fn put_formula(alloc: Global, terms: &mut TermTable, number: u32) -> Result<Node
     };
     let id = terms.intern(alloc, node)?;
     Ok(id)
-}
-
-// Whether the node is a formula of the table.
-fn is_formula(terms: &TermTable, n: NodeId) -> bool
-    ensures { IsTrue result ↔ (sort_at terms.now.nodes n ≡ Some prop) }
-{
-    n.number() < terms.len() && terms.sort(n) == SortId::PROP
 }
 
 // Puts the disjunction of two formulas into the table, where they are some.
@@ -59,58 +50,6 @@ fn terms_of(alloc: Global) -> Result<TermTable, TermRefusal> {
     Ok(terms)
 }
 
-// A mark for each node of the numbers.
-fn marks_of(alloc: Global, count: u32, marked: &[u32]) -> Result<List<bool>, Memory>
-    ensures { IfOk result (λ marks. length marks ≡ count) }
-{
-    let mut marks = List::new(alloc);
-    for n in 0..count {
-        marks.push(marked.contains(&n))?;
-    }
-    Ok(marks)
-}
-
-// Each of the first nodes in a class of its own.
-fn alone(alloc: Global, count: u32) -> Result<Classes, Memory>
-    ensures { IfOk result (λ classes. AreAlone classes count) }
-{
-    let mut classes = Classes::new(alloc);
-    for n in 0..count {
-        classes.activate(alloc, NodeId::new(n))?;
-    }
-    Ok(classes)
-}
-
-// Whether each node is a formula.
-fn are_formulas(terms: &TermTable) -> bool
-    ensures { IsTrue result → (n : ℕ) → n < length terms.now.nodes → sort_at terms.now.nodes n ≡ Some prop }
-{
-    for n in 0..terms.len() {
-        if !is_formula(terms, NodeId::new(n)) {
-            return false;
-        }
-    }
-    true
-}
-
-// The next step over classes of one node each, where all nodes are formulas and no pairs are given.
-fn next_step(alloc: Global, known: &Known, classes: &Classes) -> Result<Option<TruthStep>, Memory>
-    requires { AreAlone classes.now (length known.now.terms.nodes) }
-{
-    let count = known.terms.len() as usize;
-    if known.holds.len() != count || known.fails.len() != count {
-        return Ok(None);
-    }
-    if !known.same.is_empty() || !known.apart.is_empty() {
-        return Ok(None);
-    }
-    if !are_formulas(&known.terms) {
-        return Ok(None);
-    }
-    let step = truth_step(alloc, known, classes)?;
-    Ok(Some(step))
-}
-
 // The step where these nodes are known to hold, and these to fail.
 fn step_from(
     alloc: Global,
@@ -126,9 +65,12 @@ fn step_from(
         same: List::new(alloc),
         apart: List::new(alloc),
     };
-    let classes = alone(alloc, count)?;
+    let classes = all_alone(alloc, &known.terms)?;
+    if !are_marked_formulas(&known) {
+        return Ok(None);
+    }
     let step = next_step(alloc, &known, &classes)?;
-    Ok(step)
+    Ok(Some(step))
 }
 
 #[test]

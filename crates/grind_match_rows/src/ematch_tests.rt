@@ -1,13 +1,8 @@
 //! Matches of a theorem over classes of one node each, and over classes where some nodes were joined.
-ghost use Rattle.std.specs.Prelude.{◌≡◌, ◌<◌, ◌↔◌, length, IfOk, OnOk, IsTrue};
-ghost use Rattle.grind_term_graph.specs.Terms.{sort_at};
-ghost use Rattle.grind_match_rows.specs.Alone.{AreAlone};
-ghost use Rattle.grind_match_rows.specs.Scenes.{AreClassesOf};
-
-use grind_classes::Classes;
 use grind_cli::reader::theory_of;
-use grind_ematch::{Match, matches};
+use grind_ematch::Match;
 use grind_outside::{List, Memory};
+use grind_scenes::{all_alone, first_matches, join, zeros};
 use grind_schemes::Lemmas;
 use grind_term_graph::{NodeId, TermTable};
 use std::alloc::Global;
@@ -20,73 +15,6 @@ const INVERSE: &str =
 // The terms are, from 2 on, b, g(b), a, f(a), their equation, c, h(c), and an equation.
 const SHARED: &str =
     "sort S. fun f(S): S. fun g(S): S. fun h(S): S. theorem two (x: S) [pattern g(f(x)), h(x)]: g(f(x)) = x. goal t (a b c: S): g(b) = f(a) |- h(c) = c.";
-
-// Each of the first nodes in a class of its own.
-fn alone(alloc: Global, count: u32) -> Result<Classes, Memory>
-    ensures { IfOk result (λ classes. AreAlone classes count) }
-{
-    let mut classes = Classes::new(alloc);
-    for n in 0..count {
-        classes.activate(alloc, NodeId::new(n))?;
-    }
-    Ok(classes)
-}
-
-// Each node of a table in a class of its own.
-fn all_alone(alloc: Global, terms: &TermTable) -> Result<Classes, Memory>
-    ensures { IfOk result (λ classes. AreClassesOf terms.now.nodes classes) }
-{
-    let count = terms.len();
-    let classes = alone(alloc, count)?;
-    Ok(classes)
-}
-
-// Whether two nodes are of one sort.
-fn are_of_one_sort(terms: &TermTable, a: NodeId, b: NodeId) -> bool
-    requires first { a < length terms.now.nodes }
-    requires second { b < length terms.now.nodes }
-    ensures { IsTrue result ↔ (sort_at terms.now.nodes a ≡ sort_at terms.now.nodes b) }
-{
-    terms.sort(a) == terms.sort(b)
-}
-
-// Joins the classes of two nodes, if they are of one sort.
-fn join(
-    alloc: Global,
-    terms: &TermTable,
-    classes: &mut Classes,
-    a: NodeId,
-    b: NodeId,
-) -> Result<(), Memory>
-    requires { AreClassesOf terms.now.nodes classes.old }
-    ensures { OnOk result (AreClassesOf terms.now.nodes classes.new) }
-{
-    if !classes.is_active(a) {
-        return Ok(());
-    }
-    if !classes.is_active(b) {
-        return Ok(());
-    }
-    if classes.same(a, b) {
-        return Ok(());
-    }
-    if !are_of_one_sort(terms, a, b) {
-        return Ok(());
-    }
-    classes.merge(alloc, a, b, 0)?;
-    Ok(())
-}
-
-// Generation 0 for each node.
-fn zeros(alloc: Global, count: u32) -> Result<List<u32>, Memory>
-    ensures { IfOk result (λ generations. length generations ≡ count) }
-{
-    let mut generations = List::new(alloc);
-    for _n in 0..count {
-        generations.push(0)?;
-    }
-    Ok(generations)
-}
 
 // The matches of the first theorem, where the nodes of each pair were joined.
 fn found(
@@ -109,7 +37,7 @@ fn found(
     if lemmas.theorems.is_empty() {
         return Ok(List::new(alloc));
     }
-    let list = matches(alloc, terms, &classes, &generations, lemmas, 0, 8)?;
+    let list = first_matches(alloc, terms, &classes, &generations, lemmas)?;
     Ok(list)
 }
 

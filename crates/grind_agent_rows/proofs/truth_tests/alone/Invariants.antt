@@ -1,5 +1,0 @@
-use Rattle.grind_agent_rows.specs.Alone.{AreAlone}
-use Rattle.grind_agent_rows.proofs.truth_tests.alone.Given as goal
-
-abbrev pub invariant-loop-n : goal.invariant-loop-n
-invariant-loop-n l = AreAlone l.classes l.n

@@ -1,6 +1,0 @@
-use Rattle.std.specs.Prelude.{◌≡◌, ◌<◌, ℕ, Some}
-use Rattle.grind_term_graph.specs.Terms.{prop, sort_at}
-use Rattle.grind_agent_rows.proofs.truth_tests.are_formulas.Given as goal
-
-abbrev pub invariant-loop-n : goal.invariant-loop-n
-invariant-loop-n l = (k : ℕ) → k < l.n → sort_at l.terms.nodes k ≡ Some prop
