@@ -9,7 +9,7 @@ TOP = os.path.dirname(os.path.dirname(os.path.realpath(__file__)))
 PROGRAM = "grind_main"
 OUT = os.path.join(TOP, "out")
 # What `./prove` takes with nothing kept from earlier runs.
-FROM_NOTHING = "some thirteen minutes on four processors"
+FROM_NOTHING = "some fifteen minutes on four processors"
 # Folders of a crate from which the program is not made.
 LEFT_OUT = ("out", "must-fail")
 
