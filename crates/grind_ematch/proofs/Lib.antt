@@ -10,3 +10,5 @@ pub mod ListLemmas
 pub mod MatchLemmas
 pub mod ThinningLemmas
 pub mod BucketLemmas
+pub mod IndexLemmas
+pub mod WaitingLemmas

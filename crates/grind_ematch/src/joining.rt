@@ -1,9 +1,9 @@
 //! What partial matches have together.
-ghost use Rattle.std.specs.Prelude.{ℕ, Option, [], ◌∷◌, IfSome, IsTrue, IfOk, OnOk, MatchOption};
-ghost use Rattle.grind_ematch.specs.Buckets.{key_at, bucket_at, HasRoots};
+ghost use Rattle.std.specs.Prelude.{ℕ, Option, [], ◌∷◌, IsTrue, IfOk, OnOk, MatchOption};
+ghost use Rattle.grind_ematch.specs.Buckets.{key_at, bucket_at, HasRoots, HaveRoots};
 ghost use Rattle.grind_ematch.specs.Partials.{AreUnion, HasNoUnion, IsUnion, Joins, JoinsOne};
 
-use crate::buckets::{buckets, key_of};
+use crate::buckets::{buckets, key_of, root_of};
 use crate::partial::Partial;
 use crate::slots::Slots;
 use grind_outside::{List, Memory};
@@ -11,8 +11,8 @@ use grind_term_graph::NodeId;
 use indexmap::IndexMap;
 use std::alloc::Global;
 
-/// What each two of the partial matches, one of either list, have together. Where both lists are long and share a
-/// variable, those of one list are sorted by what it stands for.
+/// What each two of the partial matches, one of either list, have together. Where both lists are long and share
+/// variables, those of one list are sorted by what these stand for.
 pub fn joined(
     alloc: Global,
     left: &[Partial],
@@ -20,28 +20,31 @@ pub fn joined(
 ) -> Result<List<Partial>, Memory>
     ensures { IfOk result (λ list. Joins left.now right list) }
 {
-    let Some(variable) = shared(left, right.as_slice()) else {
+    let variables = shared(alloc, left, right.as_slice())?;
+    if variables.is_empty() {
         let list = joined_each(alloc, left, right.as_slice())?;
         return Ok(list);
-    };
-    let list = joined_at(alloc, variable, left, right)?;
+    }
+    let list = joined_at(alloc, variables.as_slice(), left, right)?;
     Ok(list)
 }
 
-// A variable that has a root in each of the partial matches, if both lists are long enough to be sorted.
-fn shared(left: &[Partial], right: &[Partial]) -> Option<usize>
-    ensures { IfSome result (λ variable. HasRoots left.now variable × HasRoots right.now variable) }
+// The variables that have a root in each of the partial matches, if both lists are long enough to be sorted.
+fn shared(alloc: Global, left: &[Partial], right: &[Partial]) -> Result<List<usize>, Memory>
+    ensures left { IfOk result (λ variables. HaveRoots left.now variables) }
+    ensures right { IfOk result (λ variables. HaveRoots right.now variables) }
 {
+    let mut found = List::new(alloc);
     if left.len() < 4 || right.len() < 4 {
-        return None;
+        return Ok(found);
     }
     let first = left[0].slots.as_slice();
     for variable in 0..first.len() {
         if have_roots(left, variable) && have_roots(right, variable) {
-            return Some(variable);
+            found.push(variable)?;
         }
     }
-    None
+    Ok(found)
 }
 
 // Whether the variable has a root in each of the partial matches.
@@ -49,43 +52,43 @@ fn have_roots(list: &[Partial], variable: usize) -> bool
     ensures { IsTrue result → HasRoots list.now variable }
 {
     for partial in list {
-        let Some(_root) = key_of(partial.slots.as_slice(), variable) else {
+        let Some(_root) = root_of(partial.slots.as_slice(), variable) else {
             return false;
         };
     }
     true
 }
 
-// The same by the roots of a variable.
+// The same by the roots of the variables.
 fn joined_at(
     alloc: Global,
-    variable: usize,
+    variables: &[usize],
     left: &[Partial],
     right: List<Partial>,
 ) -> Result<List<Partial>, Memory>
-    requires left { HasRoots left.now variable }
-    requires right { HasRoots right variable }
+    requires left { HaveRoots left.now variables.now }
+    requires right { HaveRoots right variables.now }
     ensures { IfOk result (λ list. Joins left.now right list) }
 {
-    let sorted = buckets(alloc, variable, right)?;
+    let sorted = buckets(alloc, variables, right)?;
     let mut found = List::new(alloc);
     for one in left {
-        join_bucket(alloc, variable, &sorted, one, &mut found)?;
+        join_bucket(alloc, variables, &sorted, one, &mut found)?;
     }
     Ok(found)
 }
 
-// Appends what a partial match has together with each of the bucket of its root.
+// Appends what a partial match has together with each of the bucket of its roots.
 fn join_bucket(
     alloc: Global,
-    variable: usize,
-    sorted: &IndexMap<Option<NodeId>, List<Partial>>,
+    variables: &[usize],
+    sorted: &IndexMap<Slots, List<Partial>>,
     one: &Partial,
     found: &mut List<Partial>,
 ) -> Result<(), Memory>
-    ensures { OnOk result (JoinsOne one.now (bucket_at sorted.now.entries (key_at one.now.slots variable)) found.old found.new) }
+    ensures { OnOk result (JoinsOne one.now (bucket_at sorted.now.entries (key_at one.now.slots variables.now)) found.old found.new) }
 {
-    let key = key_of(one.slots.as_slice(), variable);
+    let key = key_of(alloc, one.slots.as_slice(), variables)?;
     let Some(bucket) = sorted.get(&key) else {
         return Ok(());
     };

@@ -2,8 +2,8 @@
 #![tactic(auto)]
 
 pub mod buckets;
-pub mod candidates;
 pub mod found;
+pub mod index;
 pub mod joining;
 pub mod partial;
 pub mod patterns;
@@ -11,6 +11,7 @@ pub mod query;
 pub mod search;
 pub mod slots;
 pub mod thinning;
+pub mod waiting;
 pub mod walk;
 
 pub use found::Match;

@@ -3,11 +3,11 @@ ghost use Rattle.std.specs.Prelude.{◌≡◌, ◌<◌, ◌^◌, Some, All, leng
 ghost use Rattle.grind_term_graph.specs.Terms.{sort_at};
 ghost use Rattle.grind_classes.specs.Classes.{members_of, IsIn, IsActive};
 ghost use Rattle.grind_ematch.specs.Matches.{IsScene, scene_of, generation_of};
-ghost use Rattle.grind_ematch.specs.Partials.{query_of, IsQuery, AreTargets, IsCandidate};
+ghost use Rattle.grind_ematch.specs.Partials.{query_of, IsQuery, AreTargets};
 
 use grind_classes::Classes;
 use grind_schemes::Scheme;
-use grind_term_graph::{Head, Node, NodeId, SortId, TermTable};
+use grind_term_graph::{Node, NodeId, SortId, TermTable};
 use std::marker::Model;
 
 /// Terms, classes of the active ones and their generations, the sorts of the variables, and the greatest generation
@@ -77,11 +77,11 @@ impl<'a> Query<'a> {
         self.terms.len()
     }
 
-    /// Whether a node is active and has this head.
-    pub fn is_headed(&self, n: NodeId, head: &Head) -> bool
-        ensures { IsTrue result ↔ IsCandidate self.now.scene head.now n }
+    /// Whether a node is active.
+    pub fn is_active(&self, n: NodeId) -> bool
+        ensures { IsTrue result ↔ IsActive self.now.scene.classes n }
     {
-        self.classes.is_active(n) && self.node(n).head == *head
+        self.classes.is_active(n)
     }
 
     /// An active node.

@@ -15,8 +15,8 @@ loop-one-preserved c =
     let k = c.loop-one.one-index in
     let item = c.one-item.result in
     let there = item_in c.args.left.now k item c.loop-one-test.true c.one-item.is in
-    let one = JoinsOne-bucket c.args.variable item c.args.right c.in_ok-sorted.sorted.entries c.loop-one.found
-    c.join_bucket.new.found c.in_ok-sorted.ensures (c.requires.left item there) c.requires.right c.in_ok-join_bucket.ensures in
+    let one = JoinsOne-bucket c.args.variables.now item c.args.right c.in_ok-sorted.sorted.entries c.loop-one.found
+    c.join_bucket.new.found c.in_ok-sorted.ensures (λ variable v. c.requires.left variable v item there) c.requires.right c.in_ok-join_bucket.ensures in
     subst (λ (list : List Partial). Joins list c.args.right c.join_bucket.new.found)
     (sym (take_next c.args.left.now k item c.loop-one-test.true c.one-item.is))
     (Joins-next (take k c.args.left.now) c.args.right c.loop-one.found c.join_bucket.new.found item c.loop-one.invariant one)

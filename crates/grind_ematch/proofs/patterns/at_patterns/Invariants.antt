@@ -1,6 +1,8 @@
-use Rattle.std.proofs.Common.{take}
-use Rattle.grind_ematch.specs.Partials.{ListsAll}
+use Rattle.grind_ematch.proofs.WaitingLemmas.{AreJoined, waiting_count}
 use Rattle.grind_ematch.proofs.patterns.at_patterns.Given as goal
 
-abbrev pub invariant-loop-pattern : goal.invariant-loop-pattern
-invariant-loop-pattern l = ListsAll l.query (take l.pattern-index l.patterns) l.found
+abbrev pub decreases-loop-list : goal.decreases-loop-list
+decreases-loop-list l = waiting_count l.waiting
+
+abbrev pub invariant-loop-list : goal.invariant-loop-list
+invariant-loop-list l = AreJoined l.query l.patterns l.waiting l.found
