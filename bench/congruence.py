@@ -8,6 +8,7 @@ seconds of the fastest of three runs and the growth against half the size, and t
 """
 
 import os
+import random
 import shutil
 import subprocess
 import sys
@@ -15,7 +16,7 @@ import tempfile
 import time
 
 ROUNDS = 3
-LIMIT_SECONDS = 60
+LIMIT_SECONDS = float(os.environ.get("LIMIT_SECONDS", "60"))
 
 
 def chain(n):
@@ -41,6 +42,46 @@ def tree(n):
     left = [f"a{i}" for i in range(n)]
     right = [f"b{i}" for i in range(n)]
     return left + right, [("g", 2)], list(zip(left, right)), (over(left), over(right))
+
+
+def ladder(n):
+    """Two sides of n rungs, each made from both sides of the one below by a function of two arguments."""
+    names = [f"{side}{i}" for side in "ab" for i in range(n + 1)]
+    pairs = [("a0", "b0")]
+    for i in range(n):
+        pairs += [(f"a{i + 1}", f"(g a{i} b{i})"), (f"b{i + 1}", f"(g b{i} a{i})")]
+    return names, [("g", 2)], pairs, (f"a{n}", f"b{n}")
+
+
+def graph(n):
+    """A random tree over n constants. One edge of ten is a congruence, the others are equations; in any order."""
+    draw = random.Random(n)
+    names, pairs = [f"c{i}" for i in range(n)], []
+    for i in range(1, n):
+        other = draw.randrange(i)
+        if draw.random() < 0.1:
+            names += [f"p{i}", f"q{i}"]
+            pairs += [(f"c{i}", f"(f p{i})"), (f"c{other}", f"(f q{i})"), (f"p{i}", f"q{i}")]
+        else:
+            pairs.append((f"c{i}", f"c{other}"))
+    draw.shuffle(pairs)
+    return names, [("f", 1)], pairs, ("c0", f"c{n - 1}")
+
+
+def line(n):
+    """A line of n equations between constants, in any order."""
+    names, functions, pairs, ends = chain(n)
+    random.Random(n).shuffle(pairs)
+    return names, functions, pairs, ends
+
+
+def nested(n):
+    """`f` applied 150 times to each of n / 150 constants, which are equal."""
+    count = max(n // 150, 2)
+    names = [f"{side}{i}" for side in "cd" for i in range(count)]
+    pairs = [(f"d{i}", "(f " * 150 + f"c{i}" + ")" * 150) for i in range(count)]
+    pairs += [(f"c{i}", f"c{i + 1}") for i in range(count - 1)]
+    return names, [("f", 1)], pairs, ("d0", f"d{count - 1}")
 
 
 def infix(term):
@@ -99,14 +140,18 @@ def fastest(words):
 
 def shown(taken, half):
     if taken is None:
-        return f"over {LIMIT_SECONDS}", ""
+        return f"over {LIMIT_SECONDS:g}", ""
     return f"{taken:.3f}", "" if half is None else f"{taken / half:.2f}"
 
 
 FAMILIES = [
-    ("chain", [25, 50, 100, 200], lambda n: (chain(n), 1)),
-    ("cycle", [25, 50, 100, 199], lambda n: (cycle(n), 1)),
-    ("tree", [16, 32, 64, 128], lambda n: (tree(n), 1)),
+    ("chain", [2500, 5000, 10000, 20000], lambda n: (chain(n), 1)),
+    ("cycle", [1250, 2500, 5000, 10000], lambda n: (cycle(n), 1)),
+    ("tree", [512, 1024, 2048, 4096], lambda n: (tree(n), 1)),
+    ("ladder", [625, 1250, 2500, 5000], lambda n: (ladder(n), 1)),
+    ("graph", [2000, 4000, 8000, 16000], lambda n: (graph(n), 1)),
+    ("line", [2500, 5000, 10000, 20000], lambda n: (line(n), 1)),
+    ("nested", [2500, 5000, 10000, 20000], lambda n: (nested(n), 1)),
     ("goals", [500, 1000, 2000, 4000], lambda n: (cycle(5), n)),
 ]
 
