@@ -1,3 +1,4 @@
 pub mod Nodes
 pub mod Placing
 pub mod Tables
+pub mod Beginnings

@@ -13,7 +13,7 @@ use Rattle.grind_term_graph.specs.Placed.{node_eq, placed}
 use Rattle.grind_term_graph.specs.Terms.{sort_at}
 use Rattle.grind_term_graph.specs.Shape.{WellShaped, IsTable, IsBegun, IsTermTable}
 use Rattle.grind_term_graph.proofs.Nodes.{node_eq-same, node_eq-refl}
-use Rattle.grind_term_graph.proofs.Placing.{list_any-decides, none-absent, placed-present, placed-absent, slice_get-index, slice_get-append, Contains-slice_get}
+use Rattle.grind_term_graph.proofs.Placing.{pair, pair_of, place-is, list_any-decides, none-absent, placed-present, placed-absent, slice_get-index, slice_get-append, Contains-slice_get}
 
 -- a longer list gives a number below the length the same sort
 pub sort_at-append : (nodes more : List Node) (id : ℕ) → id < length nodes → sort_at (nodes ++ more) id ≡ sort_at nodes id
@@ -87,25 +87,19 @@ pub number_unique : (nodes : List Node) (i j : ℕ) (node : Node) → IsTable []
     → slice_get nodes j ≡ Some node → i ≡ j
 number_unique nodes i j node table e f = sym (position-at nodes i node table e) ∙ position-at nodes j node table f
 
-abbrev pair : List Node → ℕ → List Node × ℕ
-pair nodes place = (nodes, place)
-
-pair_of : (xs ys : List Node) (i j : ℕ) → xs ≡ ys → i ≡ j → pair xs i ≡ pair ys j
-pair_of xs ys i j p q = cc
-
 -- nor is a node of a table put anywhere but where it stands
 pub placed-at : (nodes : List Node) (id : ℕ) (node : Node) → IsTable [] nodes → slice_get nodes id ≡ Some node
     → placed nodes node ≡ (nodes, id)
 placed-at nodes id node table e =
     pair_of (placed nodes node).0 nodes (placed nodes node).1 id
-    (placed-present nodes node (Contains-slice_get nodes node id e)) (position-at nodes id node table e)
+    (placed-present nodes node (Contains-slice_get nodes node id e)) (sym (place-is nodes node) ∙ position-at nodes id node table e)
 
 -- the number that is answered for a node of a table is the one that it has
 pub number_at : (nodes after : List Node) (place id : ℕ) (node : Node) → IsTable [] nodes
     → pair after place ≡ placed nodes node → slice_get nodes id ≡ Some node → place ≡ id
 number_at nodes after place id node table e f =
     let place_is : place ≡ (placed nodes node).1 = ap (λ (p : List Node × ℕ). p.1) e in
-    place_is ∙ position-at nodes id node table f
+    place_is ∙ ap (λ (p : List Node × ℕ). p.1) (placed-at nodes id node table f)
 
 -- a table stays a table when a node that fits is put in it, while there is room
 pub IsTermTable-placed : (nodes : List Node) (limit : ℕ) (node : Node) → IsTermTable nodes limit → length nodes < limit

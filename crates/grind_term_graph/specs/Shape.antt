@@ -4,6 +4,7 @@ use Rattle.grind_term_graph.specs.declared.head.Head.{Head}
 use Rattle.grind_term_graph.specs.declared.head.Head.TheVariants.{True, False, Not, And, Or, Implies, Eq, Le, Int, Add, Neg, Mul, Fun, Const}
 use Rattle.grind_term_graph.specs.declared.node.Node.{Node}
 use Rattle.grind_term_graph.specs.Terms.{prop, int, opening, sort_at}
+use Rattle.grind_term_graph.specs.Beginnings.{BeginsWith}
 
 -- there are two, and they are the same
 abbrev pub AreTwoAlike : List (Option ℕ) → Type 0
@@ -39,7 +40,7 @@ IsTable before (node ∷ rest) = WellShaped before node × ¬ Contains before no
 
 -- the list begins with True and False
 abbrev pub IsBegun : List Node → Type 0
-IsBegun nodes = (rest : List Node) × (nodes ≡ opening ++ rest)
+IsBegun nodes = BeginsWith opening nodes
 
 -- what holds of every term table of that limit
 abbrev pub IsTermTable : List Node → ℕ → Type 0

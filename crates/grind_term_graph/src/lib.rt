@@ -6,11 +6,16 @@
 pub mod args;
 pub mod head;
 pub mod ids;
+pub mod laws;
 pub mod node;
 pub mod table;
 
 pub use args::Args;
 pub use head::Head;
 pub use ids::{FunId, NodeId, SortId};
+pub use laws::{
+    beginnings_chain, begins_by_its_first_nodes, nodes_are_placed_once, nodes_keep_their_numbers,
+    same_nodes_are_equal, tables_begin_with_themselves,
+};
 pub use node::Node;
 pub use table::{TermRefusal, TermTable};

@@ -1,5 +1,6 @@
 //! A node of a term table.
-ghost use Rattle.std.specs.Prelude.{◌≡◌, ◌≤◌, length, IsOk, IfOk};
+ghost use Rattle.std.specs.Prelude.{◌≡◌, ◌≤◌, ◌↔◌, length, IsOk, IfOk, IsTrue};
+ghost use Rattle.grind_term_graph.specs.Same.{is_same_node};
 
 use crate::args::Args;
 use crate::head::Head;
@@ -30,5 +31,13 @@ impl Node {
             sort: self.sort,
             args,
         })
+    }
+
+    /// Whether the other is the same node: of the same head, sort and arguments.
+    pub fn is_same(&self, other: &Node) -> bool
+        ensures value { result ≡ is_same_node self.now other.now }
+        ensures exact { IsTrue result ↔ (self.now ≡ other.now) }
+    {
+        self == other
     }
 }

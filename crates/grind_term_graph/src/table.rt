@@ -1,8 +1,8 @@
 //! The table of terms.
-ghost use Rattle.std.specs.Prelude.{◌≡◌, ℕ, List, ◌<◌, ◌≤◌, ◌^◌, ◌++◌, ◌∷◌, [], Some, None, Ok, length, All, take, slice_get, Contains, IsOk, IfOk, OnOk, OnErr, IsErrOf, IfSome, IsNone, IsSome, ◌↔◌};
-ghost use Rattle.grind_term_graph.specs.declared.node.Node.{Node as Term};
+ghost use Rattle.std.specs.Prelude.{◌≡◌, ℕ, ◌<◌, ◌≤◌, ◌^◌, ◌++◌, ◌∷◌, [], Some, None, Ok, length, All, take, slice_get, Contains, IsOk, IfOk, OnOk, OnErr, IsErrOf, IfSome, IsNone, IsSome, ◌↔◌};
 ghost use Rattle.grind_term_graph.specs.Terms.{opening, sort_at};
 ghost use Rattle.grind_term_graph.specs.Shape.{WellShaped, IsTable, IsBegun};
+ghost use Rattle.grind_term_graph.specs.Beginnings.{BeginsWith};
 ghost use Rattle.grind_term_graph.specs.Placed.{placed};
 
 use crate::args::Args;
@@ -79,7 +79,7 @@ impl TermTable {
         ensures number { (id : ℕ) → slice_get self.old.nodes id ≡ Some node → result ≡ Ok id }
         ensures present { Contains self.old.nodes node → IsOk result × (self.new ≡ self.old) }
         ensures appended { OnOk result (¬ Contains self.old.nodes node → self.new.nodes ≡ self.old.nodes ++ node ∷ []) }
-        ensures grows { (rest : List Term) × (self.new.nodes ≡ self.old.nodes ++ rest) }
+        ensures grows { BeginsWith self.old.nodes self.new.nodes }
         ensures limit { self.new.limit ≡ self.old.limit }
 
         ensures full { IsErrOf result TermRefusal.Full
@@ -163,7 +163,7 @@ fn store(nodes: &mut IndexSet<Node>, node: Node) -> Result<usize, Memory>
     ensures within { IfOk result (λ place. place < length nodes.new.keys) }
     ensures present { Contains nodes.old.keys node → IsOk result × (nodes.new.keys ≡ nodes.old.keys) }
     ensures appended { OnOk result (¬ Contains nodes.old.keys node → nodes.new.keys ≡ nodes.old.keys ++ node ∷ []) }
-    ensures grows { (rest : List Term) × (nodes.new.keys ≡ nodes.old.keys ++ rest) }
+    ensures grows { BeginsWith nodes.old.keys nodes.new.keys }
     ensures err { OnErr result (nodes.new.keys ≡ nodes.old.keys) }
 {
     let (place, _) = nodes.insert_full(node)?;
