@@ -5,8 +5,9 @@ use Rattle.std.specs.List.{list_any, position_or_len}
 use Rattle.std.proofs.lemmas.Bool.{cases_Bool, false_from_ne_true}
 use Rattle.std.proofs.lemmas.List.Folds.{list_any-append}
 use Rattle.grind_term_graph.specs.declared.node.Node.{Node}
-use Rattle.grind_term_graph.specs.Placed.{node_eq, placed}
-use Rattle.grind_term_graph.proofs.Placing.{list_any-decides, Contains-slice_get}
+use Rattle.grind_term_graph.specs.Same.{is_same_node}
+use Rattle.grind_term_graph.specs.Placed.{placed}
+use Rattle.grind_term_graph.proofs.Placing.{same_node-found, Contains-slice_get}
 use Rattle.grind_schemes.proofs.InstanceLemmas.{nodes_with}
 
 module _ {X : Type 0} (p : X → Bool) where
@@ -52,15 +53,15 @@ module _ {X : Type 0} (p : X → Bool) where
 pair_of : (xs ys : List Node) (i j : ℕ) → xs ≡ ys → i ≡ j → nodes_with xs i ≡ nodes_with ys j
 pair_of xs ys i j e f = cc
 
-not_any : (nodes : List Node) (node : Node) → ¬ Contains nodes node → list_any (node_eq node) nodes ≡ false
-not_any nodes node new = false_from_ne_true (list_any (node_eq node) nodes) (λ e. new ((list_any-decides nodes node).0 e))
+not_any : (nodes : List Node) (node : Node) → ¬ Contains nodes node → list_any (is_same_node node) nodes ≡ false
+not_any nodes node new = false_from_ne_true (list_any (is_same_node node) nodes) (λ e. new ((same_node-found nodes node).0 e))
 
 -- a node of a list stays where it is before others
 pub placed_in_front : (nodes fresh : List Node) (node : Node) (id : ℕ) → nodes_with nodes id ≡ placed nodes node
     → slice_get nodes id ≡ Some node → nodes_with (nodes ++ fresh) id ≡ placed (nodes ++ fresh) node
 placed_in_front nodes fresh node id is stands =
-    let p = node_eq node in
-    let here : list_any p nodes ≡ true = (list_any-decides nodes node).1 (Contains-slice_get nodes node id stands) in
+    let p = is_same_node node in
+    let here : list_any p nodes ≡ true = (same_node-found nodes node).1 (Contains-slice_get nodes node id stands) in
     let found : list_any p (nodes ++ fresh) ≡ true = list_any-append p nodes fresh ∙ rw here refl in
     let id_is : id ≡ position_or_len p nodes = ap (λ (d : List Node × ℕ). d.1) is in
     pair_of (nodes ++ fresh) (placed (nodes ++ fresh) node).0 id (placed (nodes ++ fresh) node).1
@@ -68,11 +69,11 @@ placed_in_front nodes fresh node id is stands =
 
 -- another that stands among those behind has its place there
 pub placed_behind : (nodes fresh : List Node) (node : Node) (number : ℕ) → ¬ Contains nodes node
-    → position_or_len (node_eq node) fresh < length fresh
-    → number ≡ length nodes + position_or_len (node_eq node) fresh
+    → position_or_len (is_same_node node) fresh < length fresh
+    → number ≡ length nodes + position_or_len (is_same_node node) fresh
     → nodes_with (nodes ++ fresh) number ≡ placed (nodes ++ fresh) node
 placed_behind nodes fresh node number new below is =
-    let p = node_eq node in
+    let p = is_same_node node in
     let none = not_any nodes node new in
     let found : list_any p (nodes ++ fresh) ≡ true =
     list_any-append p nodes fresh ∙ rw (none, found_below p fresh below) refl in
@@ -81,11 +82,11 @@ placed_behind nodes fresh node number new below is =
 
 -- and one that stands nowhere goes last
 pub placed_last : (nodes fresh : List Node) (node : Node) (number : ℕ) → ¬ Contains nodes node
-    → length fresh ≤ position_or_len (node_eq node) fresh
-    → number ≡ length nodes + position_or_len (node_eq node) fresh
+    → length fresh ≤ position_or_len (is_same_node node) fresh
+    → number ≡ length nodes + position_or_len (is_same_node node) fresh
     → nodes_with (nodes ++ (fresh ++ node ∷ [])) number ≡ placed (nodes ++ fresh) node
 placed_last nodes fresh node number new past is =
-    let p = node_eq node in
+    let p = is_same_node node in
     let none = not_any nodes node new in
     let nowhere : list_any p (nodes ++ fresh) ≡ false =
     list_any-append p nodes fresh ∙ rw (none, none_past p fresh past) refl in

@@ -14,23 +14,12 @@ use Rattle.grind_term_graph.specs.Shape.{IsShaped, WellShaped, AreTwoAlike}
 use Rattle.grind_term_graph.specs.Placed.{placed}
 use Rattle.grind_term_graph.proofs.Placing.{slice_get-placed, placed-grows, placed-absent}
 use Rattle.grind_term_graph.proofs.Tables.{sort_at-append, sort_at-slice_get}
+pub use Rattle.grind_term_graph.proofs.Beginnings.{BeginsWith-refl, BeginsWith-trans, BeginsWith-length}
 use Rattle.grind_schemes.specs.declared.scheme.Scheme.{Scheme, Var, Apply, Apply', Row_of-Scheme, end_of-Scheme, more_of-Scheme, items-the_row-Scheme, items_hidden-the_row-Scheme-0}
 use Rattle.grind_schemes.specs.Schemes.{scheme_sort, IsScheme}
 use Rattle.grind_schemes.specs.Instances.{node_of, interned, interned_row, BeginsWith, IsUnderway, IsSubstitution, Suits}
 use Rattle.grind_schemes.specs.InstanceRows.{interned_list, interned_at, SuitsEach}
 use Rattle.grind_schemes.proofs.SchemeLemmas.{row_of, IsScheme-Apply}
-
--- a list begins with itself
-pub BeginsWith-refl : (nodes : List Node) → BeginsWith nodes nodes
-BeginsWith-refl nodes = ([], sym (append-nil nodes))
-
--- what begins with a list that begins with another begins with that
-pub BeginsWith-trans : (a b c : List Node) → BeginsWith a b → BeginsWith b c → BeginsWith a c
-BeginsWith-trans a b c (xs, e) (ys, f) = (xs ++ ys, f ∙ ap (λ (ns : List Node). ns ++ ys) e ∙ append_assoc a xs ys)
-
--- it is no shorter
-pub BeginsWith-length : (a b : List Node) → BeginsWith a b → length a ≤ length b
-BeginsWith-length a b (xs, e) = omega (arith, ap length e, length-append a xs)
 
 -- items of a row are put there as the row is
 pub interned_row-list : (substitution : List ℕ) (n : _) (row : Row_of-Scheme n) (nodes : List Node)
@@ -163,7 +152,7 @@ interned_list-sorts vars substitution (first ∷ rest) nodes e formed =
     here_too there
 
 -- nodes that have the sorts of schemes stand below the length
-below_of_sorts : (nodes : List Node) (vars : List ℕ) (schemes : List Scheme) (ids : List ℕ) → All (IsScheme vars) schemes
+pub below_of_sorts : (nodes : List Node) (vars : List ℕ) (schemes : List Scheme) (ids : List ℕ) → All (IsScheme vars) schemes
     → map (sort_at nodes) ids ≡ map (scheme_sort vars) schemes → All (λ id. id < length nodes) ids
 below_of_sorts nodes vars schemes [] formed e = All-nil (λ id. id < length nodes)
 below_of_sorts nodes vars [] (id ∷ ids) formed e = absurd cc

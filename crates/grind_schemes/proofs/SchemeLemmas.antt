@@ -15,12 +15,12 @@ row_of _ = (_, end_of-Scheme)
 
 module _ (vars : List ℕ) where
   -- the sorts of a row are those of its items
-  sorts_of_row : (n : _) (row : Row_of-Scheme n) → row_sorts vars row ≡ map (scheme_sort vars) (items-the_row-Scheme n row)
+  pub sorts_of_row : (n : _) (row : Row_of-Scheme n) → row_sorts vars row ≡ map (scheme_sort vars) (items-the_row-Scheme n row)
   sorts_of_row n end_of-Scheme = refl
   sorts_of_row n (more_of-Scheme first rest) = ap (λ sorts. scheme_sort vars first ∷ sorts) (sorts_of_row _ rest)
 
   -- a well-formed row has well-formed items
-  of_row : (n : _) (row : Row_of-Scheme n) → AreSchemes vars row → All (IsScheme vars) (items-the_row-Scheme n row)
+  pub of_row : (n : _) (row : Row_of-Scheme n) → AreSchemes vars row → All (IsScheme vars) (items-the_row-Scheme n row)
   of_row n end_of-Scheme h = All-nil (IsScheme vars)
   of_row n (more_of-Scheme first rest) h = All-cons (IsScheme vars) first _ h.0 (of_row _ rest h.1)
 

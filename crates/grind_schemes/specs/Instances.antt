@@ -1,9 +1,10 @@
 -- What a scheme becomes among nodes once nodes stand for its variables.
-use Rattle.std.specs.Prelude.{◌≡◌, ℕ, List, [], ◌∷◌, ◌++◌, Some, map, slice_get, slice_index_or}
+use Rattle.std.specs.Prelude.{◌≡◌, ℕ, List, [], ◌∷◌, Some, map, slice_get, slice_index_or}
 use Rattle.grind_term_graph.specs.declared.head.Head.{Head}
 use Rattle.grind_term_graph.specs.declared.node.Node.{Node}
 use Rattle.grind_term_graph.specs.Terms.{Terms, sort_at}
 use Rattle.grind_term_graph.specs.Shape.{IsTable}
+pub use Rattle.grind_term_graph.specs.Beginnings.{BeginsWith}
 use Rattle.grind_term_graph.specs.Placed.{placed}
 use Rattle.grind_schemes.specs.declared.scheme.Scheme.{Scheme, Var, Apply', Row_of-Scheme, end_of-Scheme, more_of-Scheme}
 use Rattle.grind_schemes.specs.Schemes.{IsScheme}
@@ -25,10 +26,6 @@ abbrev mutual
   interned_row nodes subst (more_of-Scheme first rest) =
       let one = interned nodes subst first in
       let others = interned_row one.0 subst rest in (others.0, one.1 ∷ others.1)
-
--- the list begins with the other
-abbrev pub BeginsWith : List Node → List Node → Type 0
-BeginsWith front whole = (rest : List Node) × (whole ≡ front ++ rest)
 
 -- a table on its way to these nodes, with some of what is new there and the same limit
 pub record IsUnderway (before after : Terms) (nodes : List Node) : Type 0 where

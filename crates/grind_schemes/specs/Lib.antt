@@ -6,3 +6,4 @@ pub mod Theorems
 pub mod Laws
 pub mod Instances
 pub mod InstanceRows
+pub mod InstanceNodes

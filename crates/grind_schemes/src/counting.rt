@@ -1,7 +1,8 @@
 //! How many nodes an instance needs that a table does not have yet.
 ghost use Rattle.std.specs.Prelude.{◌≡◌, ◌+◌, ◌≤◌, ◌++◌, length, Contains, IfOk};
 ghost use Rattle.std.specs.List.{position_or_len};
-ghost use Rattle.grind_term_graph.specs.Placed.{node_eq, placed};
+ghost use Rattle.grind_term_graph.specs.Same.{is_same_node};
+ghost use Rattle.grind_term_graph.specs.Placed.{placed};
 ghost use Rattle.grind_schemes.specs.Instances.{node_of, interned, IsSubstitution, Suits};
 ghost use Rattle.grind_schemes.specs.InstanceRows.{interned_list, SuitsEach};
 
@@ -113,13 +114,13 @@ fn find_fresh(node: Node, table: &TermTable, fresh: &mut List<Node>) -> Result<N
 
 // Where the node stands among the nodes, or how many they are.
 fn place_among(nodes: &[Node], node: &Node) -> usize
-    ensures value { result ≡ position_or_len (node_eq node.now) nodes.now }
+    ensures value { result ≡ position_or_len (is_same_node node.now) nodes.now }
     ensures bound { result ≤ length nodes.now }
 {
     let mut place = 0;
     let mut rest = nodes;
     while let Some((other, tail)) = rest.split_first() {
-        if node == other {
+        if node.is_same(other) {
             return place;
         }
         place += 1;

@@ -5,6 +5,7 @@ ghost use Rattle.grind_term_graph.specs.Shape.{WellShaped};
 ghost use Rattle.grind_term_graph.specs.Placed.{placed};
 ghost use Rattle.grind_schemes.specs.Instances.{node_of, interned, IsUnderway, IsSubstitution, Suits};
 ghost use Rattle.grind_schemes.specs.InstanceRows.{interned_list, SuitsEach};
+ghost use Rattle.grind_schemes.specs.InstanceNodes.{AreInstanceNodesPast, AddsInstance};
 
 use crate::counting::missing;
 use crate::scheme::Scheme;
@@ -13,8 +14,8 @@ use grind_outside::List;
 use grind_term_graph::{Args, Head, Node, NodeId, SortId, TermRefusal, TermTable};
 use std::alloc::Global;
 
-/// The node of a theorem's body, where these nodes stand for its variables. Nodes that are absent go last, arguments
-/// before their node and from the left.
+/// The node of a theorem's body, where these nodes stand for its variables. The absent nodes of the instance go last,
+/// arguments before their node and from the left, and nothing else is added.
 ///
 /// # Errors
 ///
@@ -32,6 +33,8 @@ pub fn instantiate(
     ensures full { IsErrOf result TermRefusal.Full → table.old.limit < length (interned table.old.nodes subst.now theorem.now.body).0 }
     ensures unchanged { IsErrOf result TermRefusal.Full → table.new ≡ table.old }
     ensures underway { IsUnderway table.old table.new (interned table.old.nodes subst.now theorem.now.body).0 }
+    ensures adds { IfOk result (λ id. AddsInstance table.old.nodes subst.now theorem.now.body table.new.nodes id) }
+    ensures only { AreInstanceNodesPast (length table.old.nodes) (interned table.old.nodes subst.now theorem.now.body).0 subst.now theorem.now.body }
 {
     let _name = theorem.name();
     let count = missing(alloc, theorem, subst, table)?;
