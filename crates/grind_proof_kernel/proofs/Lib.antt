@@ -3,3 +3,4 @@ pub mod LawLemmas
 pub mod LineLemmas
 pub mod Ancestors
 pub mod Pairs
+pub mod LayoutLemmas

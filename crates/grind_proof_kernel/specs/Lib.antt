@@ -1,4 +1,5 @@
 pub mod Typing
+pub mod Layouts
 pub mod Judgement
 pub mod Laws
 pub mod TypingCases

@@ -1,14 +1,17 @@
 //! Branches: what they assume, which lines they may use, and which of them are as their places ask.
-ghost use Rattle.std.specs.Prelude.{IsTrue, ◌↔◌, ◌<◌, ◌≤◌, ◌+◌, ◌≡◌, ◌==◌, ℕ, Some, length, All, find, reverse, slice_get};
+ghost use Rattle.std.specs.Prelude.{IsTrue, ◌↔◌, ◌<◌, ◌≤◌, ◌+◌, ◌≡◌, ℕ, length, All, slice_get, IfOk, MatchOption};
 ghost use Rattle.std.specs.Option.{IsSomeAnd, option_copied};
 ghost use Rattle.grind_claims.specs.declared.proof.Branch.{Branch as BranchData};
-ghost use Rattle.grind_claims.specs.Claims.{IsFormed};
-ghost use Rattle.grind_proof_kernel.specs.Typing.{branch_at, parent_of, literal_of, begin_of, Reaches, Serves, IsPairOf, IsParent, StandsBefore, StandsBehind, last_in, IsClosed, IsWhole, IsFirst, IsSecond, IsInPair, IsListed, IsGoodBranch};
+ghost use Rattle.grind_proof_kernel.specs.Typing.{branch_at, parent_of, literal_of, begin_of, Reaches, Serves, IsPairOf, IsParent, StandsBefore, StandsBehind, IsClosed, IsWhole, IsFirst, IsSecond, IsInPair, IsGoodBranch};
+ghost use Rattle.grind_proof_kernel.specs.Judgement.{HasGoodBranches, IsFirstBadBranch};
+ghost use Rattle.grind_proof_kernel.specs.Layouts.{AreSpans};
 
+use crate::layout::{Span, span_of, spans_of};
 use grind_claims::claim::is_formed;
 use grind_claims::literals::{are_opposite, is_literal};
 use grind_claims::{Branch, Claim, Line, Proof};
-use grind_term_graph::TermTable;
+use grind_outside::Memory;
+use std::alloc::Global;
 
 /// The branch of that number, where it is listed. The root, number 0, is not.
 fn branch_at(branches: &[Branch], branch: u32) -> Option<&Branch>
@@ -88,52 +91,89 @@ pub fn all_serve(branches: &[Branch], lines: &[Line], i: u32, branch: u32, premi
         .all(|premise| serves(branches, lines, i, branch, *premise))
 }
 
+/// The first bad branch, where there is one.
+///
+/// # Errors
+/// `Memory` where memory was wanted and there was none.
+pub fn first_bad_branch(alloc: Global, proof: &Proof) -> Result<Option<u32>, Memory>
+    ensures { IfOk result (λ found. MatchOption found (HasGoodBranches proof.now) (λ first. IsFirstBadBranch proof.now first)) }
+{
+    let count = proof.branches.len() + 1;
+    let spans = spans_of(alloc, proof.lines.as_slice(), count)?;
+    let found = first_bad(proof, spans.as_slice());
+    Ok(found)
+}
+
+/// The first bad branch, where there is one, from the spans of all branches.
+fn first_bad(proof: &Proof, spans: &[Span]) -> Option<u32>
+    requires count { length spans.now ≡ length proof.now.branches + 1 }
+    requires spans { AreSpans proof.now.lines spans.now }
+    ensures { MatchOption result (HasGoodBranches proof.now) (λ first. IsFirstBadBranch proof.now first) }
+{
+    for branch in 0..proof.branches.len() + 1 {
+        if !is_good_branch(proof, spans, branch as u32) {
+            return Some(branch as u32);
+        }
+    }
+    None
+}
+
 /// Whether the branch is not bad.
-pub fn is_good_branch(proof: &Proof, branch: u32) -> bool
+fn is_good_branch(proof: &Proof, spans: &[Span], branch: u32) -> bool
+    requires count { length spans.now ≡ length proof.now.branches + 1 }
+    requires spans { AreSpans proof.now.lines spans.now }
+    requires stands { branch ≤ length proof.now.branches }
     ensures { IsTrue result ↔ IsGoodBranch proof.now branch }
 {
     let branches = proof.branches.as_slice();
     let lines = proof.lines.as_slice();
     if branch == 0 {
-        return is_whole(branches, lines, 0, 0);
+        return is_whole(branches, lines, spans, 0, 0);
     }
-    let Some(it) = branches.get((branch - 1) as usize) else {
+    let Some(it) = branch_at(branches, branch) else {
         return false;
     };
-    is_in_pair(&proof.terms, branches, lines, branch, it)
-        && is_whole(branches, lines, branch, it.after)
+    is_in_pair(proof, spans, branch, it) && is_whole(branches, lines, spans, branch, it.after)
 }
 
 /// Whether the lines of the branch stand at that line or behind it, and the branch is the parent of a pair or closed.
-fn is_whole(branches: &[Branch], lines: &[Line], branch: u32, after: u32) -> bool
+fn is_whole(branches: &[Branch], lines: &[Line], spans: &[Span], branch: u32, after: u32) -> bool
+    requires stands { branch < length spans.now }
+    requires spans { AreSpans lines.now spans.now }
     ensures { IsTrue result ↔ IsWhole branches.now lines.now branch after }
 {
-    stands_behind(lines, branch, after) && (is_parent(branches, branch) || is_closed(lines, branch))
+    stands_behind(lines, spans, branch, after)
+        && (is_parent(branches, branch) || is_closed(lines, spans, branch))
 }
 
-/// Whether each line of the branch stands at that line or behind it: no line before it is one of the branch.
-fn stands_behind(lines: &[Line], branch: u32, after: u32) -> bool
+/// Whether each line of the branch stands at that line or behind it.
+fn stands_behind(lines: &[Line], spans: &[Span], branch: u32, after: u32) -> bool
+    requires stands { branch < length spans.now }
+    requires spans { AreSpans lines.now spans.now }
     ensures { IsTrue result ↔ StandsBehind lines.now branch after }
 {
-    let end = lines.len().min(after as usize);
-    for i in 0..end {
-        if lines[i].branch == branch {
-            return false;
-        }
-    }
-    true
+    let span = span_of(lines, spans, branch);
+    after <= span.begin
 }
 
-/// Whether each line of the branch stands before that line: no line from it on is one of the branch.
-fn stands_before(lines: &[Line], branch: u32, after: u32) -> bool
+/// Whether each line of the branch stands before that line.
+fn stands_before(lines: &[Line], spans: &[Span], branch: u32, after: u32) -> bool
+    requires stands { branch < length spans.now }
+    requires spans { AreSpans lines.now spans.now }
     ensures { IsTrue result ↔ StandsBefore lines.now branch after }
 {
-    for i in after as usize..lines.len() {
-        if lines[i].branch == branch {
-            return false;
-        }
-    }
-    true
+    let span = span_of(lines, spans, branch);
+    span.end <= after
+}
+
+/// Whether the last line of the branch claims a contradiction.
+fn is_closed(lines: &[Line], spans: &[Span], branch: u32) -> bool
+    requires stands { branch < length spans.now }
+    requires spans { AreSpans lines.now spans.now }
+    ensures { IsTrue result ↔ IsClosed lines.now branch }
+{
+    let span = span_of(lines, spans, branch);
+    span.closed
 }
 
 /// Whether the pair of that number, both branches of which are listed, has this parent.
@@ -166,39 +206,18 @@ fn has_pair(branches: &[Branch], pairs: usize, parent: u32) -> bool
     false
 }
 
-/// Whether the last line of the branch claims a contradiction.
-fn is_closed(lines: &[Line], branch: u32) -> bool
-    ensures { IsTrue result ↔ IsClosed lines.now branch }
-{
-    let Some(last) = last_in(lines, branch) else {
-        return false;
-    };
-    matches!(last.claim, Claim::Absurd)
-}
-
-/// The last line of the branch.
-fn last_in(lines: &[Line], branch: u32) -> Option<&Line>
-    ensures { option_copied result ≡ last_in lines.now branch }
-{
-    lines.iter().rev().find(|line| line.branch == branch)
-}
-
 /// Whether a listed branch is as its place in its pair asks.
-fn is_in_pair(
-    terms: &TermTable,
-    branches: &[Branch],
-    lines: &[Line],
-    branch: u32,
-    it: &Branch,
-) -> bool
-    requires { 0 < branch }
-    ensures { IsTrue result ↔ ((k : ℕ) × IsInPair terms.now.nodes branches.now lines.now k branch it.now) }
+fn is_in_pair(proof: &Proof, spans: &[Span], branch: u32, it: &Branch) -> bool
+    requires count { length spans.now ≡ length proof.now.branches + 1 }
+    requires spans { AreSpans proof.now.lines spans.now }
+    requires listed { 0 < branch }
+    ensures { IsTrue result ↔ ((k : ℕ) × IsInPair proof.now.terms.nodes proof.now.branches proof.now.lines k branch it.now) }
 {
     let pair = (branch - 1) / 2;
     if branch == pair + pair + 1 {
-        return is_first(terms, branches, lines, pair, it);
+        return is_first(proof, spans, pair, it);
     }
-    follows_first(branches, branch - 1, it)
+    follows_first(proof.branches.as_slice(), branch - 1, it)
 }
 
 /// Whether a branch is as the second one of a pair has to be, of which the first has that number.
@@ -212,18 +231,22 @@ fn follows_first(branches: &[Branch], first: u32, it: &Branch) -> bool
 }
 
 /// Whether a branch is as the first one of that pair has to be.
-fn is_first(terms: &TermTable, branches: &[Branch], lines: &[Line], pair: u32, it: &Branch) -> bool
-    ensures { IsTrue result ↔ IsFirst terms.now.nodes branches.now lines.now pair it.now }
+fn is_first(proof: &Proof, spans: &[Span], pair: u32, it: &Branch) -> bool
+    requires count { length spans.now ≡ length proof.now.branches + 1 }
+    requires spans { AreSpans proof.now.lines spans.now }
+    ensures { IsTrue result ↔ IsFirst proof.now.terms.nodes proof.now.branches proof.now.lines pair it.now }
 {
+    let branches = proof.branches.as_slice();
+    let lines = proof.lines.as_slice();
     let pair = pair as usize;
     branches.len() / 2 > pair
         && it.parent as usize <= pair + pair
         && it.after as usize <= lines.len()
         && begins_within(branches, it)
-        && stands_before(lines, it.parent, it.after)
+        && stands_before(lines, spans, it.parent, it.after)
         && !has_pair(branches, pair, it.parent)
         && is_literal(&it.literal)
-        && is_formed(terms, &it.literal)
+        && is_formed(&proof.terms, &it.literal)
 }
 
 /// Whether the parent of a branch begins at the line at which the branch begins, or before.

@@ -5,6 +5,7 @@
 pub mod branches;
 pub mod checker;
 pub mod laws;
+mod layout;
 
 pub use checker::{Verdict, check, check_line, derive};
 pub use grind_claims::{Branch, Claim, Line, Proof, Rule, claim};

@@ -1,6 +1,6 @@
 use Rattle.std.proofs.Common.{ℕ, ◌<◌}
 use Rattle.grind_proof_kernel.specs.Typing.{IsGoodBranch}
-use Rattle.grind_par_check.proofs.check.first_bad_branch.Given as goal
+use Rattle.grind_proof_kernel.proofs.branches.first_bad.Given as goal
 
 -- the branches so far are good
 abbrev pub invariant-loop-branch : goal.invariant-loop-branch
