@@ -12,8 +12,8 @@ use Rattle.grind_claims.specs.declared.proof.Branch.{Branch}
 use Rattle.grind_claims.specs.declared.proof.Line.{Line}
 use Rattle.grind_claims.specs.declared.proof.Proof.{Proof}
 use Rattle.grind_claims.proofs.Growth.{some_and_stays}
-use Rattle.grind_proof_kernel.specs.declared.layout.Span.{Span}
-use Rattle.grind_proof_kernel.specs.Typing.{branch_at, StandsBefore, StandsBehind, IsClosed, IsWhole, IsInPair, IsListed, IsGoodBranch, last_in}
+use Rattle.grind_proof_kernel.specs.declared.spans.Span.{Span}
+use Rattle.grind_proof_kernel.specs.Typing.{branch_at, StandsBefore, StandsBehind, IsClosed, IsWhole, IsInPair, IsInPlace, IsGoodBranch, last_in}
 use Rattle.grind_proof_kernel.specs.Layouts.{IsSpan, AreSpans, NotesLine}
 
 -- an item of a longer list is one of the list, or the last
@@ -195,11 +195,11 @@ next_line lines n line old new within is note h =
     ap (λ (it : Line). take n lines ++ it ∷ []) is ∙ sym (take-suc lines n line within) ∙ ap (λ (k : ℕ). take k lines) next in
     subst (λ (all : List Line). AreSpans all new) front (note (take n lines) count h)
 
--- one span more
-pub one_span_more : (old new : List Span) (span : Span) (n : ℕ) → new ≡ old ++ span ∷ [] → length old ≡ n → length new ≡ n + 1
-one_span_more old new span n e count =
-    let more : length (old ++ span ∷ []) ≡ length old + 1 = simp length-append (omega arith) in
-    ap (λ (spans : List Span). length spans) e ∙ more ∙ ap (λ k. k + 1) count
+-- one item more
+pub one_item_more : {X : Type 0} (old new : List X) (item : X) (n : ℕ) → new ≡ old ++ item ∷ [] → length old ≡ n → length new ≡ n + 1
+one_item_more {X} old new item n e count =
+    let more : length (old ++ item ∷ []) ≡ length old + 1 = simp length-append (omega arith) in
+    ap (λ (items : List X). length items) e ∙ more ∙ ap (λ k. k + 1) count
 
 -- the span at a place is that of the branch
 pub span_is : (lines : List Line) (spans : List Span) (branch : ℕ) (span : Span) → branch < length spans → AreSpans lines spans →
@@ -216,14 +216,14 @@ module _ (proof : Proof) (branch : ℕ) (it : Branch) (stands : branch_at proof.
   abbrev IsPlaced : Type 0
   IsPlaced = (k : ℕ) × IsInPair proof.terms.nodes proof.branches proof.lines k branch it
 
-  is_listed : IsGoodBranch proof branch ↔ IsListed proof.terms.nodes proof.branches proof.lines branch it
+  is_listed : IsGoodBranch proof branch ↔ IsInPlace proof.terms.nodes proof.branches proof.lines branch it
   is_listed = by_number branch stands
     where
       by_number : (n : ℕ) → branch_at proof.branches n ≡ Some it →
-          IsGoodBranch proof n ↔ IsListed proof.terms.nodes proof.branches proof.lines n it
+          IsGoodBranch proof n ↔ IsInPlace proof.terms.nodes proof.branches proof.lines n it
       by_number zero there = absurd (none-some it there)
       by_number (suc b) there =
-          let P : Branch → Type 0 = IsListed proof.terms.nodes proof.branches proof.lines (suc b) in
+          let P : Branch → Type 0 = IsInPlace proof.terms.nodes proof.branches proof.lines (suc b) in
           let Q : Option Branch → Type 0 = λ o. IsSomeAnd o P in
           (λ h. subst Q there h, λ h. subst Q (sym there) h)
 
@@ -242,5 +242,5 @@ module _ (proof : Proof) (branch : ℕ) (it : Branch) (stands : branch_at proof.
 pub bad_where_none : (proof : Proof) (branch : ℕ) → 0 < branch → branch_at proof.branches branch ≡ None → IsTrue false ↔ IsGoodBranch proof branch
 bad_where_none proof zero some none = absurd (omega arith)
 bad_where_none proof (suc b) some none =
-    let Q : Option Branch → Type 0 = λ o. IsSomeAnd o (IsListed proof.terms.nodes proof.branches proof.lines (suc b)) in
+    let Q : Option Branch → Type 0 = λ o. IsSomeAnd o (IsInPlace proof.terms.nodes proof.branches proof.lines (suc b)) in
     (λ wrong. absurd (true≢false (sym wrong)), λ h. absurd (subst Q none h))

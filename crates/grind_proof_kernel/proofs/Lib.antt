@@ -4,3 +4,5 @@ pub mod LineLemmas
 pub mod Ancestors
 pub mod Pairs
 pub mod LayoutLemmas
+pub mod PairLemmas
+pub mod OppositeLemmas

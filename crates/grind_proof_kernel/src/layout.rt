@@ -1,100 +1,49 @@
-//! What one pass over the lines tells of every branch.
-ghost use Rattle.std.specs.Prelude.{IsTrue, ◌↔◌, ◌≡◌, ◌<◌, ◌+◌, [], length, min, IfOk, Some, slice_get};
-ghost use Rattle.grind_claims.specs.declared.claim.Claim.TheVariants.{Absurd};
-ghost use Rattle.grind_proof_kernel.specs.Layouts.{IsSpan, AreSpans, NotesLine};
+//! What one pass over the lines, and one over the pairs, tells of every branch.
+ghost use Rattle.std.specs.Prelude.{◌≤◌, length, IfOk};
+ghost use Rattle.grind_proof_kernel.specs.Layouts.{IsSpan, IsFirstPair, IsLayout};
 
-use grind_claims::{Claim, Line};
+use crate::pairs::{first_pairs, pair_at};
+use crate::spans::{Span, span_at, spans_of};
+use grind_claims::Proof;
 use grind_outside::{List, Memory};
 use std::alloc::Global;
 
-/// Where the lines of a branch begin and end, and whether the last of them claims a contradiction.
-#[derive(Clone, Copy)]
-pub struct Span {
-    /// The number of the first line, and 2^32 - 1 where there is none.
-    pub begin: u32,
-    /// One more than the number of the last line, and 0 where there is none.
-    pub end: u32,
-    /// Whether the last line claims a contradiction.
-    pub closed: bool,
+/// What is known of every branch of a proof, from the root.
+#[derive(Drop)]
+pub struct Layout {
+    /// Where the lines of the branch stand.
+    pub spans: List<Span>,
+    /// The number of the first pair that goes on from the branch, and 2^32 - 1 where none does.
+    pub pairs: List<u32>,
 }
 
-/// The spans of so many branches, from the root.
-pub fn spans_of(alloc: Global, lines: &[Line], count: usize) -> Result<List<Span>, Memory>
-    requires { length lines.now < 4294967296 }
-    ensures count { IfOk result (λ spans. length spans ≡ count) }
-    ensures spans { IfOk result (λ spans. AreSpans lines.now spans) }
+/// The layout of a proof.
+///
+/// # Errors
+/// `Memory` where there is none.
+pub fn layout_of(alloc: Global, proof: &Proof) -> Result<Layout, Memory>
+    ensures { IfOk result (IsLayout proof.now) }
 {
-    let mut spans = no_spans(alloc, count)?;
-    for i in 0..lines.len() {
-        note(&mut spans, i as u32, &lines[i]);
-    }
-    Ok(spans)
+    let count = proof.branches.len() + 1;
+    let spans = spans_of(alloc, proof.lines.as_slice(), count)?;
+    let pairs = first_pairs(alloc, proof.branches.as_slice(), count)?;
+    Ok(Layout { spans, pairs })
 }
 
-/// The spans of so many branches where there is no line.
-fn no_spans(alloc: Global, count: usize) -> Result<List<Span>, Memory>
-    ensures count { IfOk result (λ spans. length spans ≡ count) }
-    ensures spans { IfOk result (λ spans. AreSpans [] spans) }
+/// Where the lines of a branch stand.
+pub fn span_of(_proof: &Proof, layout: &Layout, branch: u32) -> Span
+    requires layout { IsLayout _proof.now layout.now }
+    requires stands { branch ≤ length _proof.now.branches }
+    ensures { IsSpan _proof.now.lines branch result }
 {
-    let mut spans = List::new(alloc);
-    for _branch in 0..count {
-        spans.push(Span {
-            begin: u32::MAX,
-            end: 0,
-            closed: false,
-        })?;
-    }
-    Ok(spans)
+    span_at(layout.spans.as_slice(), branch as usize)
 }
 
-/// Notes line `i` in the span of its branch.
-fn note(spans: &mut List<Span>, i: u32, line: &Line)
-    requires { i < 4294967295 }
-    ensures count { length spans.new ≡ length spans.old }
-    ensures spans { NotesLine line.now i spans.old spans.new }
+/// The number of the first pair that goes on from a branch, and 2^32 - 1 where none does.
+pub fn first_pair_of(_proof: &Proof, layout: &Layout, branch: u32) -> u32
+    requires layout { IsLayout _proof.now layout.now }
+    requires stands { branch ≤ length _proof.now.branches }
+    ensures { IsFirstPair _proof.now.branches branch result }
 {
-    let branch = line.branch as usize;
-    if branch < spans.len() {
-        let span = span_at(spans.as_slice(), branch);
-        let next = with_line(span, i, is_absurd(&line.claim));
-        spans.set(branch, next);
-    }
-}
-
-/// The span of a branch of the proof that has these lines.
-pub fn span_of(_lines: &[Line], spans: &[Span], branch: u32) -> Span
-    requires stands { branch < length spans.now }
-    requires spans { AreSpans _lines.now spans.now }
-    ensures { IsSpan _lines.now branch result }
-{
-    span_at(spans, branch as usize)
-}
-
-/// The span at that place.
-fn span_at(spans: &[Span], branch: usize) -> Span
-    requires { branch < length spans.now }
-    ensures { slice_get spans.now branch ≡ Some result }
-{
-    spans[branch]
-}
-
-/// The span with one more line, behind those that it has.
-fn with_line(span: Span, i: u32, absurd: bool) -> Span
-    requires { i < 4294967295 }
-    ensures begin { result.begin ≡ min span.begin i }
-    ensures end { result.end ≡ i + 1 }
-    ensures closed { result.closed ≡ absurd }
-{
-    Span {
-        begin: span.begin.min(i),
-        end: i + 1,
-        closed: absurd,
-    }
-}
-
-/// Whether the claim is a contradiction.
-fn is_absurd(claim: &Claim) -> bool
-    ensures { IsTrue result ↔ (claim.now ≡ Absurd) }
-{
-    matches!(claim, Claim::Absurd)
+    pair_at(layout.pairs.as_slice(), branch as usize)
 }
