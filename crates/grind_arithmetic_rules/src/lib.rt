@@ -4,7 +4,6 @@
 
 pub mod apart;
 pub mod combination;
-pub mod laws;
 pub mod linear;
 mod numbers;
 pub mod polynomial;

@@ -1,5 +1,5 @@
 -- The nodes on which truths rest: taken from a set, the greatest first.
-use Rattle.std.proofs.Common.{◌≡◌, ℕ, zero, suc, ◌+◌, ◌-◌, ◌<◌, ◌≤◌, ◌⊎◌, List, [], ◌∷◌, ◌++◌, All, Option, Some, None, Bool, true, false, true≢false, length, map, drop, max, slice_get, slice_index_or, cond, option_and_then, refl, sym, ap, subst, ◌∙◌, arith, inl, inr}
+use Rattle.std.proofs.Common.{◌≡◌, ℕ, zero, suc, ◌+◌, ◌-◌, ◌<◌, ◌≤◌, ◌⊎◌, List, [], ◌∷◌, ◌++◌, All, Option, Some, None, Bool, true, false, true≢false, IsTrue, ◌↔◌, length, map, drop, max, slice_get, slice_index_or, cond, option_and_then, refl, sym, ap, subst, ◌∙◌, arith, inl, inr}
 use Rattle.std.specs.Option.{IsSomeAnd}
 use Rattle.std.specs.Borrow.{Bor}
 use Rattle.std.specs.BTreeMap.{BTreeMap, get, is_at}
@@ -21,9 +21,9 @@ use Rattle.grind_truth_tables.specs.Needed.{Lists, Falls, IsConnective, RestsOn,
 use Rattle.grind_truth_tables.proofs.TruthLemmas.{listed_below}
 
 -- nothing stands in an empty list
-none_listed : {A : Type 0} {m : ℕ} → Lists [] m → A
+none_listed : {A : Type 0} (m : ℕ) → Lists [] m → A
 unfolding Lists
-none_listed h = absurd h
+none_listed m h = absurd h
 
 -- ---- keys of a set
 
@@ -36,7 +36,7 @@ kept_at Greater x xs more k m goes (inl e) = inl e
 kept_at Greater x xs more k m goes (inr h) = inr (goes h)
 
 kept_key : (keys : List ℕ) (k m : ℕ) → Lists keys m → Lists (insert_key nat_cmp keys k) m
-kept_key [] k m h = none_listed h
+kept_key [] k m h = none_listed m h
 kept_key (x ∷ xs) k m h = kept_at (nat_cmp k x) x xs (insert_key nat_cmp xs k) k m (kept_key xs k m) h
 
 put_at : (o : Ordering) (x : ℕ) (xs more : List ℕ) (k : ℕ) → (o ≡ Equal → k ≡ x) → Lists more k →
@@ -50,24 +50,24 @@ listed_alone : (k : ℕ) → Lists (k ∷ []) k
 unfolding Lists
 listed_alone k = inl refl
 
-listed_as : {k m : ℕ} → m ≡ k → Lists (k ∷ []) m
+listed_as : (k m : ℕ) → m ≡ k → Lists (k ∷ []) m
 unfolding Lists
-listed_as e = inl e
+listed_as k m e = inl e
 
 put_key : (keys : List ℕ) (k : ℕ) → Lists (insert_key nat_cmp keys k) k
 put_key [] k = listed_alone k
 put_key (x ∷ xs) k = put_at (nat_cmp k x) x xs (insert_key nat_cmp xs k) k (exact_unsigned k x) (put_key xs k)
 
-same_as : {k m : ℕ} → Lists (k ∷ []) m → m ≡ k
+same_as : (k m : ℕ) → Lists (k ∷ []) m → m ≡ k
 unfolding Lists
-same_as (inl e) = e
-same_as (inr h) = absurd h
+same_as k m (inl e) = e
+same_as k m (inr h) = absurd h
 
 -- a key that was put among the others
 pub gathers_one : (old new : List ℕ) (k : ℕ) → new ≡ insert_key nat_cmp old k → Gathers old (k ∷ []) new
 gathers_one old new k is = record {
   kept = λ m h. subst (λ (keys : List ℕ). Lists keys m) (sym is) (kept_key old k m h);
-  put = λ m h. subst (λ (n : ℕ). Lists new n) (sym (same_as h)) (subst (λ (keys : List ℕ). Lists keys k) (sym is) (put_key old k));
+  put = λ m h. subst (λ (n : ℕ). Lists new n) (sym (same_as k m h)) (subst (λ (keys : List ℕ). Lists keys k) (sym is) (put_key old k));
   below = λ d these those. subst (All (λ m. m < d)) (sym is)
       (All-insert_key nat_cmp k (λ m. m < d) old those (All-head (λ m. m < d) k [] these));
 }
@@ -87,10 +87,10 @@ gathering_begins old nodes = record {
   below = λ d these those. (those, these);
 }
 
-first_or_later : {k m : ℕ} {tail : List ℕ} → Lists (k ∷ tail) m → Lists (k ∷ []) m ⊎ Lists tail m
+first_or_later : (k m : ℕ) (tail : List ℕ) → Lists (k ∷ tail) m → Lists (k ∷ []) m ⊎ Lists tail m
 unfolding Lists
-first_or_later (inl e) = inl (inl e)
-first_or_later (inr h) = inr h
+first_or_later k m tail (inl e) = inl (inl e)
+first_or_later k m tail (inr h) = inr h
 
 pub gathering_goes_on : (old nodes rest tail now next : List ℕ) (k : ℕ) → rest ≡ k ∷ tail → Gathers now (k ∷ []) next →
     Gathering old nodes rest now → Gathering old nodes tail next
@@ -98,7 +98,7 @@ gathering_goes_on old nodes rest tail now next k is one h = record {
   kept = λ m has. one.kept m (h.kept m has);
   put = λ m has. elim (h.put m has) [
     | inl there ↦ inl (one.kept m there)
-    | inr left ↦ elim (first_or_later (subst (λ (xs : List ℕ). Lists xs m) is left)) [
+    | inr left ↦ elim (first_or_later k m tail (subst (λ (xs : List ℕ). Lists xs m) is left)) [
       | inl first ↦ inl (one.put m first)
       | inr later ↦ inr later
     ]
@@ -111,15 +111,13 @@ gathering_goes_on old nodes rest tail now next k is one h = record {
       );
 }
 
-pub gathering_ends : (old nodes rest now : List ℕ) → rest ≡ [] → Gathering old nodes rest now → Gathers old nodes now
-gathering_ends old nodes rest now none h = record {
+pub gathering_ends : (old nodes rest now : List ℕ) → length rest ≡ 0 → Gathering old nodes rest now → Gathers old nodes now
+gathering_ends old nodes [] now none h = record {
   kept = h.kept;
-  put = λ m has. elim (h.put m has) [
-    | inl there ↦ there
-    | inr left ↦ none_listed (subst (λ (xs : List ℕ). Lists xs m) none left)
-  ];
+  put = λ m has. elim (h.put m has) [ inl there ↦ there | inr left ↦ none_listed m left ];
   below = λ d these those. (h.below d these those).0;
 }
+gathering_ends old nodes (k ∷ rest) now none h = absurd (omega arith)
 
 -- ---- a node among the free ones
 
@@ -133,12 +131,13 @@ free_goes_on rest tail W k n is other h = (
   ],
 )
 
-pub free_found : (rest tail : List ℕ) (k n : ℕ) → rest ≡ k ∷ tail → k ≡ n → Lists rest n
+pub free_found : (rest tail : List ℕ) (W : Type 0) (k n : ℕ) → rest ≡ k ∷ tail → k ≡ n → (Lists rest n ↔ W) → IsTrue true ↔ W
 unfolding Lists
-free_found rest tail k n is e = subst (λ (xs : List ℕ). Lists xs n) (sym is) (inl (sym e))
+free_found rest tail W k n is e h = (λ yes. h.0 (subst (λ (xs : List ℕ). Lists xs n) (sym is) (inl (sym e))), λ w. refl)
 
-pub free_lacks : (rest : List ℕ) (n : ℕ) → rest ≡ [] → Lists rest n → ⊥
-free_lacks rest n none has = none_listed (subst (λ (xs : List ℕ). Lists xs n) none has)
+pub free_lacks : (rest : List ℕ) (W : Type 0) (n : ℕ) → length rest ≡ 0 → (Lists rest n ↔ W) → IsTrue false ↔ W
+free_lacks [] W n none h = (λ wrong. absurd (true≢false (sym wrong)), λ w. none_listed n (h.1 w))
+free_lacks (k ∷ rest) W n none h = absurd (omega arith)
 
 -- ---- what a node asks for
 
@@ -185,15 +184,20 @@ pub record Covering (nodes : List Node) (free : List ℕ) (claims : List Claim) 
   pub named : (n : ℕ) → NameNode claims n → Lists order n ⊎ Lists pending n
   pub closed : (n m : ℕ) → Lists order n → RestsOn nodes free n m → (m < n) × (Lists order m ⊎ Lists pending m)
 
-pub covering_begins : (nodes : List Node) (free : List ℕ) (claims : List Claim) (pending : List ℕ) → CoversNamed claims pending →
+nothing_done : (nodes : List Node) (free : List ℕ) (claims : List Claim) (pending : List ℕ) → CoversNamed claims pending →
     Covering nodes free claims [] pending
 unfolding Falls
-covering_begins nodes free claims pending named = record {
+nothing_done nodes free claims pending named = record {
   falls = tt;
-  apart = λ n m h. none_listed h;
+  apart = λ n m h. none_listed n h;
   named = λ n h. inr (named n h);
-  closed = λ n m h. none_listed h;
+  closed = λ n m h. none_listed n h;
 }
+
+pub covering_begins : (nodes : List Node) (free : List ℕ) (claims : List Claim) (order pending : List ℕ) → order ≡ [] →
+    CoversNamed claims pending → Covering nodes free claims order pending
+covering_begins nodes free claims order pending none named =
+    subst (λ (xs : List ℕ). Covering nodes free claims xs pending) (sym none) (nothing_done nodes free claims pending named)
 
 left_or_last : (xs : List ℕ) (k m : ℕ) → Lists (xs ++ k ∷ []) m → Lists xs m ⊎ (m ≡ k)
 unfolding Lists
@@ -232,30 +236,30 @@ pub covering_goes_on : (nodes : List Node) (free : List ℕ) (claims : List Clai
     keys ≡ left ++ k ∷ [] → All (λ q. IsLtBy nat_cmp q k) left → more ≡ order ++ k ∷ [] → Asks nodes free k left next →
     Covering nodes free claims order keys → Covering nodes free claims more next
 covering_goes_on nodes free claims order more keys left next k pops lower pushes asks h = record {
-  falls = subst Falls (sym pushes) (falls_on order k (λ n has. h.apart n k has (in_keys (listed_last left k k refl))) h.falls);
+  falls = subst Falls (sym pushes) (falls_on order k (λ n has. h.apart n k has (in_keys _ (listed_last left k k refl))) h.falls);
   apart = λ n m has pending. elim (done n has) [
-    | inl before ↦ let below = h.apart n k before (in_keys (listed_last left k k refl)) in let low = under m pending in omega arith
+    | inl before ↦ let below = h.apart n k before (in_keys _ (listed_last left k k refl)) in let low = under m pending in omega arith
     | inr e ↦ let low = under m pending in omega arith
   ];
   named = λ n names. elim (h.named n names) [
-    | inl has ↦ inl (in_more (listed_more order k n has))
+    | inl has ↦ inl (in_more _ (listed_more order k n has))
     | inr pending ↦ later n pending
   ];
   closed = λ n m has rests. elim (done n has) [
     | inl before ↦
         let there = h.closed n m before rests in
-        (there.0, elim there.1 [ inl it ↦ inl (in_more (listed_more order k m it)) | inr pending ↦ later m pending ])
+        (there.0, elim there.1 [ inl it ↦ inl (in_more _ (listed_more order k m it)) | inr pending ↦ later m pending ])
     | inr e ↦
         let there = asks.asked m (subst (λ (it : ℕ). RestsOn nodes free it m) e rests) in
         (subst (λ (it : ℕ). m < it) (sym e) there.0, inr there.1)
   ];
 }
   where
-    in_keys : {m : ℕ} → Lists (left ++ k ∷ []) m → Lists keys m
-    in_keys {m} has = subst (λ (xs : List ℕ). Lists xs m) (sym pops) has
+    in_keys : (m : ℕ) → Lists (left ++ k ∷ []) m → Lists keys m
+    in_keys m has = subst (λ (xs : List ℕ). Lists xs m) (sym pops) has
 
-    in_more : {m : ℕ} → Lists (order ++ k ∷ []) m → Lists more m
-    in_more {m} has = subst (λ (xs : List ℕ). Lists xs m) (sym pushes) has
+    in_more : (m : ℕ) → Lists (order ++ k ∷ []) m → Lists more m
+    in_more m has = subst (λ (xs : List ℕ). Lists xs m) (sym pushes) has
 
     done : (n : ℕ) → Lists more n → Lists order n ⊎ (n ≡ k)
     done n has = left_or_last order k n (subst (λ (xs : List ℕ). Lists xs n) pushes has)
@@ -266,7 +270,7 @@ covering_goes_on nodes free claims order more keys left next k pops lower pushes
     later : (n : ℕ) → Lists keys n → Lists more n ⊎ Lists next n
     later n pending = elim (left_or_last left k n (subst (λ (xs : List ℕ). Lists xs n) pops pending)) [
       | inl has ↦ inr (asks.kept n has)
-      | inr e ↦ inl (in_more (listed_last order k n e))
+      | inr e ↦ inl (in_more _ (listed_last order k n e))
     ]
 
 -- one more than the greatest
@@ -306,14 +310,14 @@ covering_ends nodes free claims order pending none h = (
   where
     listed : (n : ℕ) → Lists order n ⊎ Lists pending n → Lists order n
     listed n (inl has) = has
-    listed n (inr left) = none_listed (subst (λ (xs : List ℕ). Lists xs n) none left)
+    listed n (inr left) = none_listed n (subst (λ (xs : List ℕ). Lists xs n) none left)
 
 -- ---- the nodes that claims name
 
 pub names_put : (claim named : Claim) (k : ℕ) (old new : List ℕ) → claim ≡ named → ((m : ℕ) → Names named m → m ≡ k) →
     Gathers old (k ∷ []) new → (m : ℕ) → Names claim m → Lists new m
 names_put claim named k old new is only gathers m names =
-    gathers.put m (listed_as (only m (subst (λ (it : Claim). Names it m) is names)))
+    gathers.put m (listed_as k m (only m (subst (λ (it : Claim). Names it m) is names)))
 
 -- what is named, where these premises are left
 abbrev pub IsNaming : Claim → List (Bor Claim) → ℕ → List ℕ → Type 0
@@ -379,7 +383,7 @@ abbrev pub AreTold : (ℕ → Option Bool) → (ℕ → Option Bool) → List �
 AreTold look truth order = (n : ℕ) → Lists order n → look n ≡ truth n
 
 pub none_told : (look truth : ℕ → Option Bool) (order : List ℕ) → AreTold look truth (drop (length order) order)
-none_told look truth [] n has = none_listed has
+none_told look truth [] n has = none_listed n has
 none_told look truth (x ∷ order) n has = none_told look truth order n has
 
 listed_at : (order : List ℕ) (i n : ℕ) → i < length order → n ≡ slice_index_or order i n → Lists order n
@@ -404,10 +408,10 @@ equal_at Equal k n is e = refl
 equal_at Greater k n is e = let low = ranked k n Greater is in absurd (omega arith)
 
 -- what is not the first of a list stands behind it
-not_first : {k n : ℕ} {tail : List ℕ} (test : Bool) → test ≡ false → (n ≡ k → test ≡ true) → Lists (k ∷ tail) n → Lists tail n
+not_first : (k n : ℕ) (tail : List ℕ) (test : Bool) → test ≡ false → (n ≡ k → test ≡ true) → Lists (k ∷ tail) n → Lists tail n
 unfolding Lists
-not_first test other first (inl e) = absurd (true≢false (sym (first e) ∙ other))
-not_first test other first (inr has) = has
+not_first k n tail test other first (inl e) = absurd (true≢false (sym (first e) ∙ other))
+not_first k n tail test other first (inr has) = has
 
 abbrev unpacked : Option (Option Bool) → Option Bool
 unpacked o = option_and_then (λ (it : Option Bool). it) o
@@ -424,7 +428,7 @@ told_next old new order truth i next k noted following within is right updates h
           ap unpacked (updates n ∙ cond-true (is_at (nat_cmp k) n) (Some noted) (get nat_cmp old n) here)
           ∙ right ∙ ap truth same
       | inr other ↦
-          let behind = not_first (is_at (nat_cmp k) n) other (λ e. equal_at (nat_cmp k n) k n refl (sym e)) listed in
+          let behind = not_first k n (drop (suc i) order) (is_at (nat_cmp k) n) other (λ e. equal_at (nat_cmp k n) k n refl (sym e)) listed in
           ap unpacked (updates n ∙ cond-false (is_at (nat_cmp k) n) (Some noted) (get nat_cmp old n) other)
           ∙ h n (subst (λ (it : ℕ). Lists (drop it order) n) (sym (following ∙ one_more)) behind)
     ]

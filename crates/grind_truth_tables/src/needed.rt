@@ -1,5 +1,5 @@
 //! On which nodes the truths of claims rest: so a truth table costs no more than the terms of its claims.
-ghost use Rattle.std.specs.Prelude.{IsTrue, ◌↔◌, ℕ, [], ◌∷◌, ◌<◌, All, IfOk, OnOk};
+ghost use Rattle.std.specs.Prelude.{IsTrue, ◌↔◌, ◌≡◌, ℕ, [], ◌∷◌, ◌<◌, All, IfOk, OnOk};
 ghost use Rattle.grind_claims.specs.Claims.{claims_of};
 ghost use Rattle.grind_truth_tables.specs.Needed.{Lists, IsConnective, Names, CoversNamed, IsSelfContained, Gathers, Asks, NameNode};
 
@@ -117,12 +117,19 @@ fn is_free(free: &[NodeId], node: NodeId) -> bool
 {
     let mut rest = free;
     while let Some((it, tail)) = rest.split_first() {
-        if *it == node {
+        if is_same(*it, node) {
             return true;
         }
         rest = tail;
     }
     false
+}
+
+/// Whether the two nodes are one.
+fn is_same(a: NodeId, b: NodeId) -> bool
+    ensures { IsTrue result ↔ (a ≡ b) }
+{
+    a == b
 }
 
 /// Whether the head is a connective.

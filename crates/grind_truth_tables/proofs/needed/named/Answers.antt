@@ -8,8 +8,8 @@ loop-premise-init c = naming_begins c.args.claim.now c.args.premises.now c.name.
 pub loop-premise-preserved : goal.loop-premise-preserved
 loop-premise-preserved c =
     naming_goes_on c.args.claim.now c.args.premises.now c.loop-premise.premise-index c.premise-item.result c.loop-premise.set.keys
-    c.name-in-loop-premise.new.set.keys c.loop-premise-test.true c.premise-item.is c.in_ok-name-in-loop-premise.ensures.kept
-    c.in_ok-name-in-loop-premise.ensures.named c.loop-premise.invariant
+    c.name-in-loop-premise.new.set.keys c.loop-premise-test.true c.premise-item.is c.in_ok-name-2.ensures.kept
+    c.in_ok-name-2.ensures.named c.loop-premise.invariant
 
 pub returns : goal.returns
 returns c =

@@ -6,7 +6,7 @@ use Rattle.grind_truth_tables.proofs.needed.needed.Goals as goal
 pub loop-number-init : goal.loop-number-init
 loop-number-init c =
     covering_begins c.args.terms.now.nodes c.args.free.now (c.args.claim.now ∷ claims_of c.args.premises.now)
-    c.in_ok-pending.pending.keys c.in_ok-pending.ensures
+    c.new-order.result c.in_ok-pending.pending.keys c.new-order.ensures c.in_ok-pending.ensures
 
 pub loop-number-preserved : goal.loop-number-preserved
 loop-number-preserved c =
@@ -15,8 +15,8 @@ loop-number-preserved c =
     c.in-Some.ensures.removal c.in-Some.ensures.all_below (rw c.new-node.ensures at c.in_ok-push.ensures.ok)
     (rw c.new-node.ensures at c.in_ok-ask.ensures) c.loop-number.invariant
 
-pub loop-number-decreases : goal.loop-number-decreases
-loop-number-decreases c =
+pub loop-number-smaller : goal.loop-number-smaller
+loop-number-smaller c =
     set_falls c.args.terms.now.nodes c.args.free.now c.loop-number.pending.keys c.pop_last.new.self.keys c.ask.new.pending.keys
     c.in-Some.number c.in-Some.ensures.removal c.in-Some.ensures.all_below (rw c.new-node.ensures at c.in_ok-ask.ensures)
 

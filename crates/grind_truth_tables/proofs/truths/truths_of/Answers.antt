@@ -12,8 +12,8 @@ loop-done-init c =
     let same : length order ≡ length order - 0 = omega arith in
     subst (λ (k : ℕ). AreTold look truth (drop k order)) same (none_told look truth order)
 
-pub node_truth-truth-requires-told : goal.node_truth-truth-requires-told
-node_truth-truth-requires-told c =
+pub node_truth-truth-requires-clause-told : goal.node_truth-truth-requires-clause-told
+node_truth-truth-requires-clause-told c =
     let order = c.args.order.now in
     let look = told c.loop-done.known in
     let truth = truth_of c.args.terms.now.nodes c.args.free.now c.args.chosen.now in
