@@ -1,13 +1,10 @@
-use Rattle.grind_claims.specs.declared.claim.Claim.TheVariants.{Holds, Fails}
 use Rattle.grind_truth_tables.proofs.NeededLemmas.{names_put}
 use Rattle.grind_truth_tables.proofs.needed.name.Goals as goal
 
 pub returns-in_ok-put-in-Holds-clause-named : goal.returns-in_ok-put-in-Holds-clause-named
 returns-in_ok-put-in-Holds-clause-named c =
-    names_put c.args.claim.now (Holds c.in-Holds.node.now) c.in-Holds.node.now c.args.set.now.keys c.put-in-Holds.new.set.keys
-    c.in-Holds.is (λ m e. e) c.in_ok-put-in-Holds.ensures
+    names_put c.args.claim.now _ _ _ _ c.in-Holds.is (λ m e. e) c.in_ok-put-in-Holds.ensures
 
 pub returns-in_ok-put-in-Fails-clause-named : goal.returns-in_ok-put-in-Fails-clause-named
 returns-in_ok-put-in-Fails-clause-named c =
-    names_put c.args.claim.now (Fails c.in-Fails.node.now) c.in-Fails.node.now c.args.set.now.keys c.put-in-Fails.new.set.keys
-    c.in-Fails.is (λ m e. e) c.in_ok-put-in-Fails.ensures
+    names_put c.args.claim.now _ _ _ _ c.in-Fails.is (λ m e. e) c.in_ok-put-in-Fails.ensures
