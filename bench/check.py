@@ -82,7 +82,9 @@ def rows(programs, family, unit, sizes, ways_of, rounds):
             for program in programs:
                 time = taken[program, way]
                 before = half.get((program, way))
-                cells.append(f"{time:.3f} | {time / before:.2f}" if before else f"{time:.3f} | ")
+                growth = f"{time / before:.2f}" if before else ""
+                part = f"{time / taken[program, 1]:.2f}" if (program, 1) in taken else ""
+                cells.append(f"{time:.3f} | {growth} | {part}")
             print(f"| `{family}` | {size:,} {unit} | {way} | {' | '.join(cells)} |", flush=True)
         half = taken
 
@@ -95,8 +97,8 @@ def main():
     words.add_argument("programs", nargs="*", default=[default])
     given = words.parse_args()
     programs = given.programs
-    print("| Family | Size | Jobs |" + " Seconds | Growth |" * len(programs))
-    print("|---|---|---|" + "---|---|" * len(programs))
+    print("| Family | Size | Jobs |" + " Seconds | Growth | Part of one job |" * len(programs))
+    print("|---|---|---|" + "---|---|---|" * len(programs))
     with tempfile.TemporaryDirectory() as folder:
         name = theory(folder)
         jobs = lambda family: lambda size: {job: [family, str(size), str(job)] for job in JOBS}
