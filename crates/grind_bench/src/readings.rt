@@ -12,8 +12,10 @@ use std::alloc::Global;
 /// The sides of an equation of whole numbers.
 #[derive(Clone, Copy)]
 pub struct Sides {
-    left: NodeId,
-    right: NodeId,
+    /// The left one.
+    pub left: NodeId,
+    /// The right one.
+    pub right: NodeId,
 }
 
 /// How many parts the reading of the conclusion's left side has as a linear form, where it has one.
@@ -145,7 +147,7 @@ fn is_number(terms: &TermTable, node: NodeId) -> bool
 }
 
 /// The two arguments of a node, where there are two.
-fn sides_of(terms: &TermTable, node: NodeId) -> Option<Sides> {
+pub fn sides_of(terms: &TermTable, node: NodeId) -> Option<Sides> {
     if node.number() >= terms.len() {
         return None;
     }

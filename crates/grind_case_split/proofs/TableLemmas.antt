@@ -15,7 +15,7 @@ use Rattle.grind_term_graph.specs.Shape.{IsTable}
 use Rattle.grind_term_graph.proofs.Tables.{WellShaped-at}
 use Rattle.grind_claims.specs.declared.claim.Claim.{Claim}
 use Rattle.grind_rules.specs.Tables.{free_truth, of_one, joined_truth, truth_at, node_truth, truths_of, truth_of, literal_truth, Follows, IsTableRule}
-use Rattle.grind_rules.proofs.TruthLemmas.{first_truths_agree, truths_next}
+use Rattle.grind_truth_tables.proofs.TruthLemmas.{first_truths_agree, truths_next}
 use Rattle.grind_case_split.specs.Congruences.{IsNegation}
 use Rattle.grind_case_split.specs.Facts.{literal}
 use Rattle.grind_case_split.proofs.LawLemmas.{some_item}

@@ -9,11 +9,10 @@ use Rattle.grind_linear_forms.specs.declared.form.Part.{Part}
 use Rattle.grind_linear_forms.specs.Forms.{FormData}
 use Rattle.grind_linear_forms.specs.Naming.{NamesNumbers}
 use Rattle.grind_polynomials.specs.declared.poly.Term.{Term}
-use Rattle.grind_differences.specs.Equations.{MultipliesNumbers}
 use Rattle.grind_claims.specs.declared.claim.Claim.{Claim}
 use Rattle.grind_claims.specs.declared.claim.Claim.TheVariants.{Holds, Fails, Same, Differ, AtMost, Zero, Absurd}
 use Rattle.grind_claims.specs.declared.proof.Line.{Line}
-use Rattle.grind_claims.specs.Claims.{AreOfOneSort, IsFormed, AreClaimsAt}
+use Rattle.grind_claims.specs.Claims.{MultipliesNumbers, AreOfOneSort, IsFormed, AreClaimsAt}
 use Rattle.grind_claims.specs.Laws.{FormedStays, ClaimsStay, ClaimsCount}
 
 -- what holds of an item still holds of it

@@ -1,14 +1,18 @@
 -- Which claims are well formed, and what the lines of a proof claim.
-use Rattle.std.specs.Prelude.{◌≡◌, ℕ, List, [], ◌∷◌, Option, Some, IsSome, map, slice_get, ⊤}
+use Rattle.std.specs.Prelude.{◌≡◌, ℕ, List, [], ◌∷◌, All, Option, Some, IsSome, map, slice_get, ⊤}
 use Rattle.std.specs.Option.{option_map}
 use Rattle.std.specs.Borrow.{Bor}
 use Rattle.grind_term_graph.specs.declared.node.Node.{Node}
-use Rattle.grind_term_graph.specs.Terms.{prop, sort_at}
+use Rattle.grind_term_graph.specs.Terms.{prop, int, sort_at}
 use Rattle.grind_linear_forms.specs.Naming.{NamesNumbers}
-use Rattle.grind_differences.specs.Equations.{MultipliesNumbers}
+use Rattle.grind_polynomials.specs.declared.poly.Term.{Term}
 use Rattle.grind_claims.specs.declared.claim.Claim.{Claim}
 use Rattle.grind_claims.specs.declared.claim.Claim.TheVariants.{Holds, Fails, Same, Differ, AtMost, Zero, Absurd}
 use Rattle.grind_claims.specs.declared.proof.Line.{Line}
+
+-- each node of the polynomial is a whole number of the table
+abbrev pub MultipliesNumbers : List Node → List Term → Type 0
+MultipliesNumbers nodes poly = All (λ (term : Term). All (λ n. sort_at nodes n ≡ Some int) term.monomial) poly
 
 -- two nodes of one sort
 abbrev pub AreOfOneSort : List Node → ℕ → ℕ → Type 0

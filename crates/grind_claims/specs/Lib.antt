@@ -1,4 +1,3 @@
 pub mod Claims
-pub mod Literals
 pub mod Copies
 pub mod Laws

@@ -1,10 +1,9 @@
 //! What a line claims.
-ghost use Rattle.std.specs.Prelude.{IsTrue, ◌↔◌, ◌<◌, length, IsSome, ◌≡◌, Some};
-ghost use Rattle.grind_term_graph.specs.Terms.{prop, sort_at};
+ghost use Rattle.std.specs.Prelude.{IsTrue, ◌↔◌, ◌<◌, All, length, IsSome, ◌≡◌, Some};
+ghost use Rattle.grind_term_graph.specs.Terms.{prop, int, sort_at};
 ghost use Rattle.grind_linear_forms.specs.Naming.{NamesNumbers};
-ghost use Rattle.grind_claims.specs.Claims.{IsFormed};
+ghost use Rattle.grind_claims.specs.Claims.{MultipliesNumbers, IsFormed};
 
-use grind_differences::{is_number, multiplies_numbers};
 use grind_linear_forms::Form;
 use grind_polynomials::Poly;
 use grind_term_graph::{NodeId, SortId, TermTable};
@@ -57,6 +56,30 @@ fn names_numbers(terms: &TermTable, form: &Form) -> bool
     form.parts().iter().all(|part| is_number(terms, part.node))
 }
 
+/// Whether each node of the polynomial is a whole number.
+fn multiplies_numbers(terms: &TermTable, poly: &Poly) -> bool
+    ensures { IsTrue result ↔ MultipliesNumbers terms.now.nodes poly.now }
+{
+    poly.terms()
+        .iter()
+        .all(|term| are_numbers(terms, term.monomial.as_slice()))
+}
+
+/// Whether each of the nodes is a whole number.
+fn are_numbers(terms: &TermTable, nodes: &[NodeId]) -> bool
+    ensures { IsTrue result ↔ All (λ n. sort_at terms.now.nodes n ≡ Some int) nodes.now }
+{
+    nodes.iter().all(|node| is_number(terms, *node))
+}
+
+/// Whether the node is a whole number.
+fn is_number(terms: &TermTable, node: NodeId) -> bool
+    ensures { IsTrue result ↔ (sort_at terms.now.nodes node ≡ Some int) }
+{
+    node.number() < terms.len() && terms.sort(node) == SortId::INT
+}
+
+/// Whether both nodes stand there, and have one sort.
 fn are_of_one_sort(terms: &TermTable, left: NodeId, right: NodeId) -> bool
     ensures { IsTrue result ↔ (IsSome (sort_at terms.now.nodes left)
         × (sort_at terms.now.nodes left ≡ sort_at terms.now.nodes right)) }

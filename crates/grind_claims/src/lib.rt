@@ -1,10 +1,10 @@
-//! What proofs are made of: claims, rules, lines and branches; which claims are well formed, and which a branch may assume.
+//! What proofs are made of: claims, rules, lines and branches; and which claims are well formed.
 #![tactic(auto)]
 
 pub mod claim;
 mod copies;
 pub mod laws;
-pub mod literals;
+pub mod premises;
 pub mod proof;
 
 pub use claim::Claim;

@@ -1,15 +1,9 @@
 -- What polynomials say of each other as equations.
-use Rattle.std.specs.Prelude.{◌≡◌, ◌≢◌, ℕ, List, [], ◌∷◌, All, map, Option, Some, None, ℤ, pos, ◌+ℤ◌, ◌*ℤ◌}
+use Rattle.std.specs.Prelude.{◌≡◌, ◌≢◌, ℕ, List, [], ◌∷◌, map, Option, Some, None, ℤ, pos, ◌+ℤ◌, ◌*ℤ◌}
 use Rattle.std.specs.Option.{option_and_then}
-use Rattle.grind_term_graph.specs.declared.node.Node.{Node}
-use Rattle.grind_term_graph.specs.Terms.{int, sort_at}
 use Rattle.grind_linear_forms.specs.Forms.{FormData, form_data, part_of, number_form}
 use Rattle.grind_polynomials.specs.declared.poly.Term.{Term}
 use Rattle.grind_polynomials.specs.Polynomials.{term_of}
-
--- each node of the polynomial is a whole number of the table
-abbrev pub MultipliesNumbers : List Node → List Term → Type 0
-MultipliesNumbers nodes poly = All (λ (term : Term). All (λ n. sort_at nodes n ≡ Some int) term.monomial) poly
 
 -- the term taken k times
 abbrev pub multiple_term : ℤ → Term → Term

@@ -1,32 +1,14 @@
 //! Polynomials as equations: multiples of them, numbers, and those that are linear forms.
 ghost use Rattle.std.specs.Prelude.{IsTrue, ◌↔◌, ◌≡◌, ◌*ℤ◌, All, Some, IfOk};
-ghost use Rattle.grind_term_graph.specs.Terms.{int, sort_at};
 ghost use Rattle.grind_polynomials.specs.declared.poly.Term.{Term as TermData};
 ghost use Rattle.grind_polynomials.specs.Polynomials.{IsPoly};
-ghost use Rattle.grind_differences.specs.Equations.{MultipliesNumbers, multiple_term, multiple_poly, IsOtherThanZero, form_of};
+ghost use Rattle.grind_differences.specs.Equations.{multiple_term, multiple_poly, IsOtherThanZero, form_of};
 
-use crate::differences::is_number;
 use grind_linear_forms::{Form, Part};
 use grind_outside::{List, Memory};
 use grind_polynomials::{Poly, Term};
-use grind_term_graph::{NodeId, TermTable};
+use grind_term_graph::NodeId;
 use std::alloc::Global;
-
-/// Whether each node of the polynomial is a whole number of the table.
-pub fn multiplies_numbers(terms: &TermTable, poly: &Poly) -> bool
-    ensures { IsTrue result ↔ MultipliesNumbers terms.now.nodes poly.now }
-{
-    poly.terms()
-        .iter()
-        .all(|term| are_numbers(terms, term.monomial.as_slice()))
-}
-
-/// Whether each of the nodes is a whole number of the table.
-fn are_numbers(terms: &TermTable, nodes: &[NodeId]) -> bool
-    ensures { IsTrue result ↔ All (λ n. sort_at terms.now.nodes n ≡ Some int) nodes.now }
-{
-    nodes.iter().all(|node| is_number(terms, *node))
-}
 
 /// Whether the two polynomials are the same.
 pub fn is_same_poly(one: &Poly, other: &Poly) -> bool

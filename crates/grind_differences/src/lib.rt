@@ -14,7 +14,7 @@ pub use differences::{
     are_apart_by_reading, is_difference, is_difference_or_more, is_difference_plus_one,
     is_more_than_difference, is_number, is_poly_difference,
 };
-pub use equations::{form_of, is_multiple, is_other_than_zero, is_same_poly, multiplies_numbers};
+pub use equations::{form_of, is_multiple, is_other_than_zero, is_same_poly};
 pub use laws::{
     differences_have_their_values, differences_stay, forms_of_polys_have_their_values,
     multiples_have_their_values, opposites_have_their_values, poly_differences_have_their_values,

@@ -2,8 +2,8 @@
 use Rattle.std.specs.Prelude.{ℕ, ◌<◌, Option, Some, None}
 
 -- each of so many items is true
-abbrev pub AreTrue : (ℕ → Type 0) → ℕ → Type 0
-AreTrue holds count = (i : ℕ) → i < count → holds i
+abbrev pub AreItemsTrue : (ℕ → Type 0) → ℕ → Type 0
+AreItemsTrue holds count = (i : ℕ) → i < count → holds i
 
 -- of so many items, the one at this place is not true, and each before it is
 pub record IsFirstBad (holds : ℕ → Type 0) (count place : ℕ) : Type 0 where
@@ -13,7 +13,7 @@ pub record IsFirstBad (holds : ℕ → Type 0) (count place : ℕ) : Type 0 wher
 
 -- the answer is right: each of so many items is true, or the first that is not stands at this place
 abbrev pub IsFound : (ℕ → Type 0) → ℕ → Option ℕ → Type 0
-IsFound holds count None = AreTrue holds count
+IsFound holds count None = AreItemsTrue holds count
 IsFound holds count (Some place) = IsFirstBad holds count place
 
 -- of so many items, the one at this place was refused, and each before it is true

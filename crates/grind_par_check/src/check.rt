@@ -1,13 +1,13 @@
 //! The check of a proof, its lines by several threads.
-ghost use Rattle.std.specs.Prelude.{◌≡◌, ◌≤◌, ◌<◌, ◌↔◌, IsTrue, IfOk, MatchOption, length};
+ghost use Rattle.std.specs.Prelude.{◌≡◌, ◌≤◌, ◌<◌, ◌↔◌, IsTrue, IfOk, length};
 ghost use Rattle.grind_proof_kernel.specs.Typing.{HasTerms, TypedLine};
-ghost use Rattle.grind_proof_kernel.specs.Judgement.{HasGoodBranches, IsFirstBadBranch, IsRight};
+ghost use Rattle.grind_proof_kernel.specs.Judgement.{IsRight};
 ghost use Rattle.grind_par_check.specs.Laws.{OneVerdict};
 ghost use Rattle.grind_par_check.specs.Lines.{BeginsWithTerms};
 
 use crate::judge::{Judge, first_bad};
 use grind_outside::Memory;
-use grind_proof_kernel::branches::is_good_branch;
+use grind_proof_kernel::branches::first_bad_branch;
 use grind_proof_kernel::{Proof, Verdict, check_line};
 use grind_schemes::{Goal, Lemmas};
 use std::alloc::Global;
@@ -31,7 +31,8 @@ pub fn check_parallel(
     requires jobs { 1 ≤ jobs }
     ensures { IfOk result (IsRight lemmas.now goal.now proof.now) }
 {
-    if let Some(first) = first_bad_branch(proof) {
+    let bad = first_bad_branch(alloc, proof)?;
+    if let Some(first) = bad {
         return Ok(Verdict::BadBranch { first });
     }
     let judge = LineJudge {
@@ -51,18 +52,6 @@ pub fn check_parallel(
 pub fn one_verdict()
     ensures { OneVerdict }
 {}
-
-/// The first bad branch, where there is one.
-fn first_bad_branch(proof: &Proof) -> Option<u32>
-    ensures { MatchOption result (HasGoodBranches proof.now) (IsFirstBadBranch proof.now) }
-{
-    for branch in 0..proof.branches.len() + 1 {
-        if !is_good_branch(proof, branch as u32) {
-            return Some(branch as u32);
-        }
-    }
-    None
-}
 
 /// The lines of a proof: item `i` is true where line `i` is typed.
 #[derive(Drop)]

@@ -3,3 +3,6 @@ pub mod LawLemmas
 pub mod LineLemmas
 pub mod Ancestors
 pub mod Pairs
+pub mod LayoutLemmas
+pub mod PairLemmas
+pub mod OppositeLemmas

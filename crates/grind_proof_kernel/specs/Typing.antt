@@ -12,7 +12,7 @@ use Rattle.grind_claims.specs.declared.proof.Line.{Line}
 use Rattle.grind_claims.specs.declared.proof.Proof.{Proof}
 use Rattle.grind_claims.specs.declared.proof.Rule.{Rule}
 use Rattle.grind_claims.specs.Claims.{IsFormed, AreClaimsAt}
-use Rattle.grind_claims.specs.Literals.{IsLiteral, AreOpposite}
+use Rattle.grind_proof_kernel.specs.Literals.{IsLiteral, AreOpposite}
 use Rattle.grind_rules.specs.Rules.{RuleAllows}
 
 -- the terms of the proof begin with those of the goal
@@ -133,7 +133,7 @@ IsInPair nodes branches lines k branch it =
     ⊎ ((branch ≡ k + k + 2) × IsSomeAnd (branch_at branches (k + k + 1)) (λ (first : Branch). IsSecond first it))
 
 -- a listed branch is as its place asks, and whole
-pub record IsListed (nodes : List Node) (branches : List Branch) (lines : List Line) (branch : ℕ) (it : Branch) : Type 0 where
+pub record IsInPlace (nodes : List Node) (branches : List Branch) (lines : List Line) (branch : ℕ) (it : Branch) : Type 0 where
   pub pair : (k : ℕ) × IsInPair nodes branches lines k branch it
   pub whole : IsWhole branches lines branch it.after
 
@@ -141,7 +141,7 @@ pub record IsListed (nodes : List Node) (branches : List Branch) (lines : List L
 abbrev pub IsGoodBranch : Proof → ℕ → Type 0
 IsGoodBranch proof zero = IsWhole proof.branches proof.lines 0 0
 IsGoodBranch proof (suc b) =
-    IsSomeAnd (slice_get proof.branches b) (IsListed proof.terms.nodes proof.branches proof.lines (suc b))
+    IsSomeAnd (slice_get proof.branches b) (IsInPlace proof.terms.nodes proof.branches proof.lines (suc b))
 
 -- no branch is bad, and each line is typed
 pub record Typed (lemmas : Lemmas) (goal : GoalData) (proof : Proof) : Type 0 where

@@ -1,14 +1,17 @@
 //! Branches: what they assume, which lines they may use, and which of them are as their places ask.
-ghost use Rattle.std.specs.Prelude.{IsTrue, ◌↔◌, ◌<◌, ◌≤◌, ◌+◌, ◌≡◌, ◌==◌, ℕ, Some, length, All, find, reverse, slice_get};
+ghost use Rattle.std.specs.Prelude.{IsTrue, ◌↔◌, ◌<◌, ◌≤◌, ◌+◌, ◌≡◌, ℕ, length, All, slice_get, IfOk, MatchOption};
 ghost use Rattle.std.specs.Option.{IsSomeAnd, option_copied};
 ghost use Rattle.grind_claims.specs.declared.proof.Branch.{Branch as BranchData};
-ghost use Rattle.grind_claims.specs.Claims.{IsFormed};
-ghost use Rattle.grind_proof_kernel.specs.Typing.{branch_at, parent_of, literal_of, begin_of, Reaches, Serves, IsPairOf, IsParent, StandsBefore, StandsBehind, last_in, IsClosed, IsWhole, IsFirst, IsSecond, IsInPair, IsListed, IsGoodBranch};
+ghost use Rattle.grind_proof_kernel.specs.Typing.{branch_at, parent_of, literal_of, begin_of, Reaches, Serves, IsPairOf, IsParent, StandsBefore, StandsBehind, IsClosed, IsWhole, IsFirst, IsSecond, IsInPair, IsGoodBranch};
+ghost use Rattle.grind_proof_kernel.specs.Judgement.{HasGoodBranches, IsFirstBadBranch};
+ghost use Rattle.grind_proof_kernel.specs.Layouts.{IsLayout};
 
+use crate::layout::{Layout, first_pair_of, layout_of, span_of};
+use crate::literals::{are_opposite, is_literal};
 use grind_claims::claim::is_formed;
-use grind_claims::literals::{are_opposite, is_literal};
 use grind_claims::{Branch, Claim, Line, Proof};
-use grind_term_graph::TermTable;
+use grind_outside::Memory;
+use std::alloc::Global;
 
 /// The branch of that number, where it is listed. The root, number 0, is not.
 fn branch_at(branches: &[Branch], branch: u32) -> Option<&Branch>
@@ -88,117 +91,117 @@ pub fn all_serve(branches: &[Branch], lines: &[Line], i: u32, branch: u32, premi
         .all(|premise| serves(branches, lines, i, branch, *premise))
 }
 
+/// The first bad branch, where there is one.
+///
+/// # Errors
+/// `Memory` where memory was wanted and there was none.
+pub fn first_bad_branch(alloc: Global, proof: &Proof) -> Result<Option<u32>, Memory>
+    ensures { IfOk result (λ found. MatchOption found (HasGoodBranches proof.now) (λ first. IsFirstBadBranch proof.now first)) }
+{
+    let layout = layout_of(alloc, proof)?;
+    let found = first_bad(proof, &layout);
+    Ok(found)
+}
+
+/// The first bad branch, where there is one, from the layout of the proof.
+fn first_bad(proof: &Proof, layout: &Layout) -> Option<u32>
+    requires layout { IsLayout proof.now layout.now }
+    ensures { MatchOption result (HasGoodBranches proof.now) (λ first. IsFirstBadBranch proof.now first) }
+{
+    for branch in 0..proof.branches.len() + 1 {
+        if !is_good_branch(proof, layout, branch as u32) {
+            return Some(branch as u32);
+        }
+    }
+    None
+}
+
 /// Whether the branch is not bad.
-pub fn is_good_branch(proof: &Proof, branch: u32) -> bool
+fn is_good_branch(proof: &Proof, layout: &Layout, branch: u32) -> bool
+    requires layout { IsLayout proof.now layout.now }
+    requires stands { branch ≤ length proof.now.branches }
     ensures { IsTrue result ↔ IsGoodBranch proof.now branch }
 {
-    let branches = proof.branches.as_slice();
-    let lines = proof.lines.as_slice();
     if branch == 0 {
-        return is_whole(branches, lines, 0, 0);
+        return is_whole(proof, layout, 0, 0);
     }
-    let Some(it) = branches.get((branch - 1) as usize) else {
+    let Some(it) = branch_at(proof.branches.as_slice(), branch) else {
         return false;
     };
-    is_in_pair(&proof.terms, branches, lines, branch, it)
-        && is_whole(branches, lines, branch, it.after)
+    is_in_pair(proof, layout, branch, it) && is_whole(proof, layout, branch, it.after)
 }
 
 /// Whether the lines of the branch stand at that line or behind it, and the branch is the parent of a pair or closed.
-fn is_whole(branches: &[Branch], lines: &[Line], branch: u32, after: u32) -> bool
-    ensures { IsTrue result ↔ IsWhole branches.now lines.now branch after }
+fn is_whole(proof: &Proof, layout: &Layout, branch: u32, after: u32) -> bool
+    requires layout { IsLayout proof.now layout.now }
+    requires stands { branch ≤ length proof.now.branches }
+    ensures { IsTrue result ↔ IsWhole proof.now.branches proof.now.lines branch after }
 {
-    stands_behind(lines, branch, after) && (is_parent(branches, branch) || is_closed(lines, branch))
+    stands_behind(proof, layout, branch, after)
+        && (is_parent(proof, layout, branch) || is_closed(proof, layout, branch))
 }
 
-/// Whether each line of the branch stands at that line or behind it: no line before it is one of the branch.
-fn stands_behind(lines: &[Line], branch: u32, after: u32) -> bool
-    ensures { IsTrue result ↔ StandsBehind lines.now branch after }
+/// Whether each line of the branch stands at that line or behind it.
+fn stands_behind(proof: &Proof, layout: &Layout, branch: u32, after: u32) -> bool
+    requires layout { IsLayout proof.now layout.now }
+    requires stands { branch ≤ length proof.now.branches }
+    ensures { IsTrue result ↔ StandsBehind proof.now.lines branch after }
 {
-    let end = lines.len().min(after as usize);
-    for i in 0..end {
-        if lines[i].branch == branch {
-            return false;
-        }
-    }
-    true
+    let span = span_of(proof, layout, branch);
+    after <= span.begin
 }
 
-/// Whether each line of the branch stands before that line: no line from it on is one of the branch.
-fn stands_before(lines: &[Line], branch: u32, after: u32) -> bool
-    ensures { IsTrue result ↔ StandsBefore lines.now branch after }
+/// Whether each line of the branch stands before that line.
+fn stands_before(proof: &Proof, layout: &Layout, branch: u32, after: u32) -> bool
+    requires layout { IsLayout proof.now layout.now }
+    requires stands { branch ≤ length proof.now.branches }
+    ensures { IsTrue result ↔ StandsBefore proof.now.lines branch after }
 {
-    for i in after as usize..lines.len() {
-        if lines[i].branch == branch {
-            return false;
-        }
-    }
-    true
-}
-
-/// Whether the pair of that number, both branches of which are listed, has this parent.
-fn is_pair_of(branches: &[Branch], pair: usize, parent: u32) -> bool
-    ensures { IsTrue result ↔ IsPairOf branches.now pair parent }
-{
-    let count = branches.len();
-    if count < 2 || pair > (count - 2) / 2 {
-        return false;
-    }
-    branches[pair + pair].parent == parent
-}
-
-/// Whether the branch is the parent of a pair.
-fn is_parent(branches: &[Branch], branch: u32) -> bool
-    ensures { IsTrue result ↔ IsParent branches.now branch }
-{
-    has_pair(branches, branches.len(), branch)
-}
-
-/// Whether one of the first pairs, so many of them, has this parent.
-fn has_pair(branches: &[Branch], pairs: usize, parent: u32) -> bool
-    ensures { IsTrue result ↔ ((k : ℕ) × (k < pairs) × IsPairOf branches.now k parent) }
-{
-    for pair in 0..pairs {
-        if is_pair_of(branches, pair, parent) {
-            return true;
-        }
-    }
-    false
+    let span = span_of(proof, layout, branch);
+    span.end <= after
 }
 
 /// Whether the last line of the branch claims a contradiction.
-fn is_closed(lines: &[Line], branch: u32) -> bool
-    ensures { IsTrue result ↔ IsClosed lines.now branch }
+fn is_closed(proof: &Proof, layout: &Layout, branch: u32) -> bool
+    requires layout { IsLayout proof.now layout.now }
+    requires stands { branch ≤ length proof.now.branches }
+    ensures { IsTrue result ↔ IsClosed proof.now.lines branch }
 {
-    let Some(last) = last_in(lines, branch) else {
-        return false;
-    };
-    matches!(last.claim, Claim::Absurd)
+    let span = span_of(proof, layout, branch);
+    span.closed
 }
 
-/// The last line of the branch.
-fn last_in(lines: &[Line], branch: u32) -> Option<&Line>
-    ensures { option_copied result ≡ last_in lines.now branch }
+/// Whether the branch is the parent of a pair.
+fn is_parent(proof: &Proof, layout: &Layout, branch: u32) -> bool
+    requires layout { IsLayout proof.now layout.now }
+    requires stands { branch ≤ length proof.now.branches }
+    ensures { IsTrue result ↔ IsParent proof.now.branches branch }
 {
-    lines.iter().rev().find(|line| line.branch == branch)
+    has_pair(proof, layout, proof.branches.len(), branch)
+}
+
+/// Whether one of the first pairs, so many of them, has this parent.
+fn has_pair(proof: &Proof, layout: &Layout, pairs: usize, parent: u32) -> bool
+    requires layout { IsLayout proof.now layout.now }
+    requires stands { parent ≤ length proof.now.branches }
+    requires few { pairs ≤ 4294967295 }
+    ensures { IsTrue result ↔ ((k : ℕ) × (k < pairs) × IsPairOf proof.now.branches k parent) }
+{
+    let first = first_pair_of(proof, layout, parent) as usize;
+    first < pairs
 }
 
 /// Whether a listed branch is as its place in its pair asks.
-fn is_in_pair(
-    terms: &TermTable,
-    branches: &[Branch],
-    lines: &[Line],
-    branch: u32,
-    it: &Branch,
-) -> bool
-    requires { 0 < branch }
-    ensures { IsTrue result ↔ ((k : ℕ) × IsInPair terms.now.nodes branches.now lines.now k branch it.now) }
+fn is_in_pair(proof: &Proof, layout: &Layout, branch: u32, it: &Branch) -> bool
+    requires layout { IsLayout proof.now layout.now }
+    requires listed { 0 < branch }
+    ensures { IsTrue result ↔ ((k : ℕ) × IsInPair proof.now.terms.nodes proof.now.branches proof.now.lines k branch it.now) }
 {
     let pair = (branch - 1) / 2;
     if branch == pair + pair + 1 {
-        return is_first(terms, branches, lines, pair, it);
+        return is_first(proof, layout, pair, it);
     }
-    follows_first(branches, branch - 1, it)
+    follows_first(proof.branches.as_slice(), branch - 1, it)
 }
 
 /// Whether a branch is as the second one of a pair has to be, of which the first has that number.
@@ -212,18 +215,20 @@ fn follows_first(branches: &[Branch], first: u32, it: &Branch) -> bool
 }
 
 /// Whether a branch is as the first one of that pair has to be.
-fn is_first(terms: &TermTable, branches: &[Branch], lines: &[Line], pair: u32, it: &Branch) -> bool
-    ensures { IsTrue result ↔ IsFirst terms.now.nodes branches.now lines.now pair it.now }
+fn is_first(proof: &Proof, layout: &Layout, pair: u32, it: &Branch) -> bool
+    requires layout { IsLayout proof.now layout.now }
+    ensures { IsTrue result ↔ IsFirst proof.now.terms.nodes proof.now.branches proof.now.lines pair it.now }
 {
+    let branches = proof.branches.as_slice();
     let pair = pair as usize;
     branches.len() / 2 > pair
         && it.parent as usize <= pair + pair
-        && it.after as usize <= lines.len()
+        && it.after as usize <= proof.lines.len()
         && begins_within(branches, it)
-        && stands_before(lines, it.parent, it.after)
-        && !has_pair(branches, pair, it.parent)
+        && stands_before(proof, layout, it.parent, it.after)
+        && !has_pair(proof, layout, pair, it.parent)
         && is_literal(&it.literal)
-        && is_formed(terms, &it.literal)
+        && is_formed(&proof.terms, &it.literal)
 }
 
 /// Whether the parent of a branch begins at the line at which the branch begins, or before.

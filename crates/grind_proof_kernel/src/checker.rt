@@ -4,7 +4,7 @@ ghost use Rattle.grind_claims.specs.Claims.{IsFormed, AreClaimsAt, claims_of};
 ghost use Rattle.grind_proof_kernel.specs.Typing.{HasTerms, IsTypedAs, TypedLine, LinesAllow, IsGoodBranch, literal_of, appended};
 ghost use Rattle.grind_proof_kernel.specs.Judgement.{HasGoodBranches, IsFirstBadBranch, IsRight};
 
-use crate::branches::{all_serve, is_good_branch, literal_of};
+use crate::branches::{all_serve, first_bad_branch, literal_of};
 use grind_claims::claim::is_formed;
 use grind_claims::{Claim, Line, Proof};
 use grind_outside::Memory;
@@ -106,7 +106,8 @@ pub fn check(alloc: Global, lemmas: &Lemmas, goal: &Goal, proof: &Proof) -> Resu
     requires { HasTerms goal.now proof.now }
     ensures { IfOk result (IsRight lemmas.now goal.now proof.now) }
 {
-    if let Some(first) = first_bad_branch(proof) {
+    let bad = first_bad_branch(alloc, proof)?;
+    if let Some(first) = bad {
         return Ok(Verdict::BadBranch { first });
     }
     for i in 0..proof.lines.len() as u32 {
@@ -116,18 +117,6 @@ pub fn check(alloc: Global, lemmas: &Lemmas, goal: &Goal, proof: &Proof) -> Resu
         }
     }
     Ok(Verdict::Typed)
-}
-
-/// The first bad branch, where there is one.
-fn first_bad_branch(proof: &Proof) -> Option<u32>
-    ensures { MatchOption result (HasGoodBranches proof.now) (λ first. IsFirstBadBranch proof.now first) }
-{
-    for branch in 0..proof.branches.len() + 1 {
-        if !is_good_branch(proof, branch as u32) {
-            return Some(branch as u32);
-        }
-    }
-    None
 }
 
 /// Puts a line that is typed there behind the proof, and answers its number.

@@ -5,7 +5,10 @@
 pub mod branches;
 pub mod checker;
 pub mod laws;
+mod layout;
+pub mod literals;
+mod pairs;
+mod spans;
 
 pub use checker::{Verdict, check, check_line, derive};
 pub use grind_claims::{Branch, Claim, Line, Proof, Rule, claim};
-pub use grind_rules::table;

@@ -10,8 +10,8 @@ use Rattle.grind_polynomials.specs.Sums.{sum_product}
 use Rattle.grind_polynomials.specs.Readings.{answered}
 use Rattle.grind_claims.specs.declared.claim.Claim.{Claim}
 use Rattle.grind_claims.specs.declared.proof.Rule.TheVariants as rule
-use Rattle.grind_rules.specs.LinearRules.{taken, combined, KeepApart}
-use Rattle.grind_rules.specs.PolyRules.{zero_of, gathered}
+use Rattle.grind_arithmetic_rules.specs.LinearRules.{taken, combined, KeepApart}
+use Rattle.grind_arithmetic_rules.specs.PolyRules.{zero_of, gathered}
 use Rattle.grind_rules.specs.Laws.{PremisesAreCounted}
 
 -- a list with an item has one at least

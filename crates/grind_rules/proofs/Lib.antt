@@ -1,11 +1,2 @@
-pub mod Premises
-pub mod RuleLemmas
-pub mod BoundLemmas
-pub mod CombineLemmas
-pub mod InstanceWalks
-pub mod TableGrowth
 pub mod RuleGrowth
 pub mod Counts
-pub mod TruthLemmas
-pub mod AssignmentLemmas
-pub mod FollowsLemmas

@@ -8,15 +8,16 @@ use Rattle.grind_schemes.proofs.InstanceLemmas.{IsSubstitution-grows}
 use Rattle.grind_schemes.proofs.InstanceLaws.{IsInstance-grows}
 use Rattle.grind_claims.specs.declared.claim.Claim.{Claim}
 use Rattle.grind_claims.specs.declared.proof.Rule.TheVariants as rules
-use Rattle.grind_rules.specs.Rules.{IsBodyAt, IsInst, IsEquationOf, IsCong, IsEq, IsBack, AreTwoNumbers, IsImpossible, IsClash}
+use Rattle.grind_term_rules.specs.TermRules.{IsBodyAt, IsInst, IsEquationOf, IsCong, IsEq, IsBack}
+use Rattle.grind_rules.specs.Rules.{AreTwoNumbers, IsImpossible, IsClash}
 use Rattle.grind_linear_forms.specs.Forms.{FormData}
 use Rattle.grind_differences.specs.Differences.{IsDifferencePlus, IsDifferenceOver}
 use Rattle.grind_differences.specs.Laws.{DifferencesStay, PolyDifferencesStay}
-use Rattle.grind_rules.specs.LinearRules.{Compares, IsRead, IsWrite, IsLine, IsPinch, IsStrict, KeepApart, IsApart}
-use Rattle.grind_rules.specs.PolyRules.{IsPolyRule, IsEqual}
+use Rattle.grind_arithmetic_rules.specs.LinearRules.{Compares, IsRead, IsWrite, IsLine, IsPinch, IsStrict, KeepApart, IsApart}
+use Rattle.grind_arithmetic_rules.specs.PolyRules.{IsPolyRule, IsEqual}
 use Rattle.grind_rules.specs.Laws.{AllowedStays}
 use Rattle.grind_claims.proofs.Growth.{some_and_stays, some_and_then, item_stays}
-use Rattle.grind_rules.proofs.TableGrowth.{table_stays}
+use Rattle.grind_truth_tables.specs.Laws.{TablesStay}
 
 -- an equation of two nodes in either order stays one
 equation_stays : (nodes more : List Node) (node a b : ℕ) → IsEquationOf nodes node a b → IsEquationOf (nodes ++ more) node a b
@@ -158,28 +159,28 @@ module _ (differences : DifferencesStay) (polys : PolyDifferencesStay) (nodes mo
       → IsEqual (nodes ++ more) premises claim
   equal_stays premises claim h = (h.0, h.1, h.2, h.3, h.4, polys nodes more h.0 h.1 h.2 h.5)
 
-pub allowed_stays : DifferencesStay → PolyDifferencesStay → AllowedStays
-allowed_stays differences polys lemmas goal nodes more literal (rules.Hyp i) premises claim h = h
-allowed_stays differences polys lemmas goal nodes more literal rules.Negated premises claim h = h
-allowed_stays differences polys lemmas goal nodes more literal (rules.Inst t subst) premises claim h = inst_stays lemmas nodes more t subst premises claim h
-allowed_stays differences polys lemmas goal nodes more literal rules.Branch premises claim h = h
-allowed_stays differences polys lemmas goal nodes more literal rules.Refl premises claim h = h
-allowed_stays differences polys lemmas goal nodes more literal rules.Sym premises claim h = h
-allowed_stays differences polys lemmas goal nodes more literal rules.Trans premises claim h = h
-allowed_stays differences polys lemmas goal nodes more literal rules.Cong premises claim h = cong_stays nodes more premises claim h
-allowed_stays differences polys lemmas goal nodes more literal rules.Eq premises claim h = eq_stays nodes more premises claim h
-allowed_stays differences polys lemmas goal nodes more literal rules.Back premises claim h = back_stays nodes more premises claim h
-allowed_stays differences polys lemmas goal nodes more literal rules.Truth premises claim h = h
-allowed_stays differences polys lemmas goal nodes more literal rules.Untruth premises claim h = h
-allowed_stays differences polys lemmas goal nodes more literal (rules.Table free) premises claim h = table_stays nodes more free premises claim h
-allowed_stays differences polys lemmas goal nodes more literal rules.Read premises claim h = read_stays differences polys nodes more premises claim h
-allowed_stays differences polys lemmas goal nodes more literal rules.Write premises claim h = write_stays differences polys nodes more premises claim h
-allowed_stays differences polys lemmas goal nodes more literal rules.Line premises claim h = line_stays differences polys nodes more premises claim h
-allowed_stays differences polys lemmas goal nodes more literal rules.Poly premises claim h = poly_rule_stays differences polys nodes more premises claim h
-allowed_stays differences polys lemmas goal nodes more literal (rules.Combine divisor factors) premises claim h = h
-allowed_stays differences polys lemmas goal nodes more literal rules.Pinch premises claim h = pinch_stays differences polys nodes more premises claim h
-allowed_stays differences polys lemmas goal nodes more literal rules.Strict premises claim h = strict_stays differences polys nodes more premises claim h
-allowed_stays differences polys lemmas goal nodes more literal rules.Apart premises claim h = apart_stays differences polys nodes more premises claim h
-allowed_stays differences polys lemmas goal nodes more literal (rules.Ideal divisor factors) premises claim h = h
-allowed_stays differences polys lemmas goal nodes more literal rules.Equal premises claim h = equal_stays differences polys nodes more premises claim h
-allowed_stays differences polys lemmas goal nodes more literal rules.Clash premises claim h = clash_stays nodes more premises claim h
+pub allowed_stays : TablesStay → DifferencesStay → PolyDifferencesStay → AllowedStays
+allowed_stays tables differences polys lemmas goal nodes more literal (rules.Hyp i) premises claim h = h
+allowed_stays tables differences polys lemmas goal nodes more literal rules.Negated premises claim h = h
+allowed_stays tables differences polys lemmas goal nodes more literal (rules.Inst t subst) premises claim h = inst_stays lemmas nodes more t subst premises claim h
+allowed_stays tables differences polys lemmas goal nodes more literal rules.Branch premises claim h = h
+allowed_stays tables differences polys lemmas goal nodes more literal rules.Refl premises claim h = h
+allowed_stays tables differences polys lemmas goal nodes more literal rules.Sym premises claim h = h
+allowed_stays tables differences polys lemmas goal nodes more literal rules.Trans premises claim h = h
+allowed_stays tables differences polys lemmas goal nodes more literal rules.Cong premises claim h = cong_stays nodes more premises claim h
+allowed_stays tables differences polys lemmas goal nodes more literal rules.Eq premises claim h = eq_stays nodes more premises claim h
+allowed_stays tables differences polys lemmas goal nodes more literal rules.Back premises claim h = back_stays nodes more premises claim h
+allowed_stays tables differences polys lemmas goal nodes more literal rules.Truth premises claim h = h
+allowed_stays tables differences polys lemmas goal nodes more literal rules.Untruth premises claim h = h
+allowed_stays tables differences polys lemmas goal nodes more literal (rules.Table free) premises claim h = tables nodes more free premises claim h
+allowed_stays tables differences polys lemmas goal nodes more literal rules.Read premises claim h = read_stays differences polys nodes more premises claim h
+allowed_stays tables differences polys lemmas goal nodes more literal rules.Write premises claim h = write_stays differences polys nodes more premises claim h
+allowed_stays tables differences polys lemmas goal nodes more literal rules.Line premises claim h = line_stays differences polys nodes more premises claim h
+allowed_stays tables differences polys lemmas goal nodes more literal rules.Poly premises claim h = poly_rule_stays differences polys nodes more premises claim h
+allowed_stays tables differences polys lemmas goal nodes more literal (rules.Combine divisor factors) premises claim h = h
+allowed_stays tables differences polys lemmas goal nodes more literal rules.Pinch premises claim h = pinch_stays differences polys nodes more premises claim h
+allowed_stays tables differences polys lemmas goal nodes more literal rules.Strict premises claim h = strict_stays differences polys nodes more premises claim h
+allowed_stays tables differences polys lemmas goal nodes more literal rules.Apart premises claim h = apart_stays differences polys nodes more premises claim h
+allowed_stays tables differences polys lemmas goal nodes more literal (rules.Ideal divisor factors) premises claim h = h
+allowed_stays tables differences polys lemmas goal nodes more literal rules.Equal premises claim h = equal_stays differences polys nodes more premises claim h
+allowed_stays tables differences polys lemmas goal nodes more literal rules.Clash premises claim h = clash_stays nodes more premises claim h

@@ -1,9 +1,4 @@
 pub mod Tables
-pub mod Assignments
-pub mod Instances
-pub mod LinearRules
-pub mod PolyRules
 pub mod Rules
 pub mod Laws
 pub mod RuleCases
-pub mod ArithmeticCases

@@ -2,11 +2,13 @@
 ghost use Rattle.grind_rules.specs.Laws.{AllowedStays, PremisesAreCounted};
 
 use grind_differences::{differences_stay, poly_differences_stay};
+use grind_truth_tables::laws::tables_stay;
 
 /// What a rule allows it allows where terms are put behind the others, too.
 pub fn allowed_stays()
     ensures { AllowedStays }
 {
+    tables_stay();
     differences_stay();
     poly_differences_stay();
 }

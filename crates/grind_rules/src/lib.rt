@@ -2,11 +2,10 @@
 //! for its caller, who may take them from lines of a proof or from elsewhere.
 #![tactic(auto)]
 
+mod assumed;
+mod clash;
 pub mod laws;
 pub mod rules;
-pub mod setting;
-pub mod table;
-mod truths;
 
+pub use grind_term_rules::Setting;
 pub use rules::rule_allows;
-pub use setting::Setting;

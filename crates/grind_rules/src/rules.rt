@@ -1,34 +1,22 @@
-//! What each rule allows: one function for each rule, named as the rule is.
+//! What each rule allows: the function of the rule, named as the rule is.
 ghost use Rattle.std.specs.Prelude.{IsTrue, ◌↔◌, IfOk, IsOk, option_copied};
 ghost use Rattle.grind_claims.specs.Claims.{IsFormed, claims_of};
 ghost use Rattle.grind_rules.specs.Rules.{RuleAllows, TakesNoMemory};
 
-mod apart;
-mod clash;
-mod combination;
-mod congruence;
-mod equality;
-mod instances;
-mod linear;
-mod numbers;
-mod polynomial;
-mod premises;
-mod truth;
-
-use crate::setting::Setting;
-use crate::table::is_table;
-use apart::is_apart;
-use clash::is_clash;
-use combination::is_combine;
-use congruence::is_cong;
-use equality::{is_back, is_eq, is_refl, is_sym, is_trans};
+use crate::assumed::is_assumed;
+use crate::clash::is_clash;
+use grind_arithmetic_rules::{
+    is_apart, is_combine, is_equal, is_ideal, is_line, is_pinch, is_poly_rule, is_read, is_strict,
+    is_write,
+};
 use grind_claims::{Claim, Rule};
 use grind_outside::Memory;
-use instances::is_inst;
-use linear::{is_line, is_pinch, is_read, is_strict, is_write};
-use polynomial::{is_equal, is_ideal, is_poly_rule};
+use grind_term_rules::{
+    Setting, is_back, is_cong, is_eq, is_hyp, is_inst, is_negated, is_refl, is_sym, is_trans,
+    is_truth, is_untruth,
+};
+use grind_truth_tables::is_table;
 use std::alloc::Global;
-use truth::{is_assumed, is_hyp, is_negated, is_truth, is_untruth};
 
 /// Whether the rule allows the claim, which is well formed over the terms, from premises that claim this.
 ///

@@ -5,11 +5,11 @@ use Rattle.grind_term_graph.specs.declared.node.Node.{Node}
 pub use Rattle.grind_claims.specs.declared.claim.Claim.{Claim}
 pub use Rattle.grind_claims.specs.declared.claim.Claim.TheVariants.{Holds, Fails, Same, Differ, AtMost, Zero, Absurd}
 pub use Rattle.grind_claims.specs.Claims.{IsFormed}
-pub use Rattle.grind_rules.specs.Rules.{IsEquation, true_node, false_node}
-pub use Rattle.grind_rules.specs.Tables.{joined_truth, implies, alike}
-use Rattle.grind_rules.specs.Rules.{IsUntruth, IsEq, IsBack}
-use Rattle.grind_rules.specs.LinearRules.{IsApart}
-use Rattle.grind_rules.specs.Tables.{IsTableRule}
+pub use Rattle.grind_term_rules.specs.TermRules.{IsEquation, true_node, false_node}
+pub use Rattle.grind_truth_tables.specs.Tables.{joined_truth, implies, alike}
+use Rattle.grind_term_rules.specs.TermRules.{IsUntruth, IsEq, IsBack}
+use Rattle.grind_arithmetic_rules.specs.LinearRules.{IsApart}
+use Rattle.grind_truth_tables.specs.Tables.{IsTableRule}
 
 -- the rule `untruth` allows this claim from these premises
 abbrev pub SaysUntruth : List Claim → Claim → Type 0

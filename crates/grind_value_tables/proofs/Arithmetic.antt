@@ -11,7 +11,7 @@ use Rattle.grind_linear_forms.specs.Values.{parts_value, form_value, Computes, R
 use Rattle.grind_polynomials.specs.Laws as polynomials
 use Rattle.grind_differences.specs.Bounds.{plus, IsOver}
 use Rattle.grind_differences.specs.Laws.{DifferencesHaveTheirValues, PolyDifferencesHaveTheirValues, MultiplesHaveTheirValues, FormsOfPolysHaveTheirValues}
-use Rattle.grind_rules.specs.LinearRules.{IsComparison}
+use Rattle.grind_arithmetic_rules.specs.LinearRules.{IsComparison}
 use Rattle.grind_value_tables.specs.Respects.{one, Means, OfOne, OfTwo, Respects}
 use Rattle.grind_value_tables.proofs.Meanings.{IsSomeAnd-item, means_of}
 

@@ -9,7 +9,7 @@ use Rattle.grind_term_graph.specs.Shape.{IsShaped, IsTable}
 use Rattle.grind_term_graph.proofs.Tables.{WellShaped-at}
 use Rattle.grind_claims.specs.declared.claim.Claim.{Claim}
 use Rattle.grind_claims.specs.declared.claim.Claim.TheVariants.{Same}
-use Rattle.grind_rules.specs.Rules.{IsCong, SayEqual}
+use Rattle.grind_term_rules.specs.TermRules.{IsCong, SayEqual}
 use Rattle.grind_value_tables.specs.Respects.{one, zero_value, IsTruthValue, Means, OfOne, OfTwo, Respects}
 use Rattle.grind_value_tables.specs.Truths.{ClaimTrue}
 use Rattle.grind_value_tables.proofs.Meanings.{PremisesHold, false≢one, claim_is, premise_is, means_of}

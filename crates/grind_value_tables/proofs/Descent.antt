@@ -21,8 +21,8 @@ use Rattle.grind_claims.specs.declared.proof.Branch.{Branch}
 use Rattle.grind_claims.specs.declared.proof.Line.{Line}
 use Rattle.grind_claims.specs.declared.proof.Proof.{Proof}
 use Rattle.grind_claims.specs.Claims.{IsFormed}
-use Rattle.grind_claims.specs.Literals.{IsLiteral, AreOpposite}
-use Rattle.grind_proof_kernel.specs.Typing.{IsParent, IsClosed, IsFirst, IsSecond, IsInPair, IsListed, IsGoodBranch, Typed, branch_at, parent_of}
+use Rattle.grind_proof_kernel.specs.Literals.{IsLiteral, AreOpposite}
+use Rattle.grind_proof_kernel.specs.Typing.{IsParent, IsClosed, IsFirst, IsSecond, IsInPair, IsInPlace, IsGoodBranch, Typed, branch_at, parent_of}
 use Rattle.grind_value_tables.specs.Respects.{zero_value, Respects}
 use Rattle.grind_value_tables.specs.Truths.{ClaimTrue, AreTrue, InstancesTrue}
 use Rattle.grind_value_tables.specs.Laws.{AssumesTruth, IsTableFor, Sound, TypedIsTrue}
@@ -95,16 +95,16 @@ ends_of : (proof : Proof) (branch : ℕ) → IsGoodBranch proof branch
     → IsParent proof.branches branch ⊎ IsClosed proof.lines branch
 ends_of proof zero good = good.ends
 ends_of proof (suc b) good =
-    let it = IsSomeAnd-item (slice_get proof.branches b) (IsListed proof.terms.nodes proof.branches proof.lines (suc b)) good in
+    let it = IsSomeAnd-item (slice_get proof.branches b) (IsInPlace proof.terms.nodes proof.branches proof.lines (suc b)) good in
     it.2.whole.ends
 
 -- and other than the root it is listed
 listed_at : (proof : Proof) (branch : ℕ) → 0 < branch → IsGoodBranch proof branch
     → (it : Branch) × (branch_at proof.branches branch ≡ Some it)
-    × IsListed proof.terms.nodes proof.branches proof.lines branch it
+    × IsInPlace proof.terms.nodes proof.branches proof.lines branch it
 listed_at proof zero positive good = absurd (omega arith)
 listed_at proof (suc b) positive good =
-    IsSomeAnd-item (slice_get proof.branches b) (IsListed proof.terms.nodes proof.branches proof.lines (suc b)) good
+    IsSomeAnd-item (slice_get proof.branches b) (IsInPlace proof.terms.nodes proof.branches proof.lines (suc b)) good
 
 -- halves are alike, and an odd number is not even
 halves : (j k : ℕ) → k + k + 1 ≡ j + j + 1 → j ≡ k

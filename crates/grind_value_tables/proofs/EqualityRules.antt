@@ -8,7 +8,8 @@ use Rattle.grind_schemes.specs.Goals.{GoalData}
 use Rattle.grind_claims.specs.declared.claim.Claim.{Claim}
 use Rattle.grind_claims.specs.declared.claim.Claim.TheVariants.{Holds, Fails, Same, Differ}
 use Rattle.grind_claims.specs.Claims.{IsFormed}
-use Rattle.grind_rules.specs.Rules.{true_node, false_node, IsHyp, IsNegated, IsAssumed, IsRefl, IsSym, IsTrans, IsEq, IsBack, IsTruth, IsUntruth, IsClash, IsFalseEquality, IsImpossible, AreOpposed, AreSplit}
+use Rattle.grind_term_rules.specs.TermRules.{true_node, false_node, IsHyp, IsNegated, IsRefl, IsSym, IsTrans, IsEq, IsBack, IsTruth, IsUntruth}
+use Rattle.grind_rules.specs.Rules.{IsAssumed, IsClash, IsFalseEquality, IsImpossible, AreOpposed, AreSplit}
 use Rattle.grind_value_tables.specs.Respects.{one, zero_value, Respects}
 use Rattle.grind_value_tables.specs.Truths.{ClaimTrue, AreTrue}
 use Rattle.grind_value_tables.proofs.LinearRules.{not_too_great}

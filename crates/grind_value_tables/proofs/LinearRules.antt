@@ -18,7 +18,7 @@ use Rattle.grind_differences.specs.Differences.{difference, AreApartByReading}
 use Rattle.grind_claims.specs.declared.claim.Claim.{Claim}
 use Rattle.grind_claims.specs.declared.claim.Claim.TheVariants.{Holds, Fails, Same, Differ, AtMost, Zero, Absurd}
 use Rattle.grind_claims.specs.Claims.{IsFormed}
-use Rattle.grind_rules.specs.LinearRules.{IsRead, IsWrite, IsLine, taken, combined, IsCombine, IsPinch, IsStrict, IsBoundOver, KeepApart, IsApart, IsTooGreat}
+use Rattle.grind_arithmetic_rules.specs.LinearRules.{IsRead, IsWrite, IsLine, taken, combined, IsCombine, IsPinch, IsStrict, IsBoundOver, KeepApart, IsApart, IsTooGreat}
 use Rattle.grind_value_tables.specs.Respects.{Respects}
 use Rattle.grind_value_tables.specs.Truths.{ClaimTrue}
 use Rattle.grind_value_tables.proofs.Meanings.{PremisesHold, chained, false≢one, false_unless, claim_is, premises_are, premise_is, formula_value}

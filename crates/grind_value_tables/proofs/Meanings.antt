@@ -9,7 +9,7 @@ use Rattle.grind_term_graph.specs.declared.node.Node.{Node}
 use Rattle.grind_term_graph.specs.Terms.{prop, sort_at}
 use Rattle.grind_term_graph.specs.Shape.{IsBegun}
 use Rattle.grind_claims.specs.declared.claim.Claim.{Claim}
-use Rattle.grind_rules.specs.Rules.{IsEquation, IsEquationOf, IsNumber}
+use Rattle.grind_term_rules.specs.TermRules.{IsEquation, IsEquationOf, IsNumber}
 use Rattle.grind_value_tables.specs.Respects.{one, zero_value, IsTruthValue, Means, Respects}
 use Rattle.grind_value_tables.specs.Truths.{ClaimTrue}
 

@@ -17,7 +17,7 @@ use Rattle.grind_differences.specs.Differences.{poly_difference}
 use Rattle.grind_differences.specs.Equations.{multiple_poly}
 use Rattle.grind_claims.specs.declared.claim.Claim.{Claim}
 use Rattle.grind_claims.specs.declared.claim.Claim.TheVariants.{Holds, Fails, Same, Differ, AtMost, Zero, Absurd}
-use Rattle.grind_rules.specs.PolyRules.{IsPolyRule, IsEqual, zero_of, gathered, IsIdeal, IsFalseZero}
+use Rattle.grind_arithmetic_rules.specs.PolyRules.{IsPolyRule, IsEqual, zero_of, gathered, IsIdeal, IsFalseZero}
 use Rattle.grind_value_tables.specs.Respects.{Respects}
 use Rattle.grind_value_tables.specs.Truths.{ClaimTrue}
 use Rattle.grind_value_tables.proofs.Meanings.{PremisesHold, chained, claim_is, premises_are, premise_is}

@@ -18,7 +18,7 @@ use Rattle.grind_term_graph.specs.Shape.{IsShaped, IsTable}
 use Rattle.grind_term_graph.proofs.Tables.{WellShaped-at}
 use Rattle.grind_claims.specs.declared.claim.Claim.{Claim}
 use Rattle.grind_claims.specs.declared.claim.Claim.TheVariants.{Holds, Fails, Same, Differ, AtMost, Zero, Absurd}
-use Rattle.grind_rules.specs.Tables.{free_truth, of_one, of_two, implies, alike, joined_truth, truth_at, node_truth, truths_of, truth_of, literal_truth, conclusion_truth, IsTableRule}
+use Rattle.grind_truth_tables.specs.Tables.{free_truth, of_one, of_two, implies, alike, joined_truth, truth_at, node_truth, truths_of, truth_of, literal_truth, conclusion_truth, IsTableRule}
 use Rattle.grind_value_tables.specs.Respects.{one, zero_value, IsTruthValue, Means, OfOne, OfTwo, Respects}
 use Rattle.grind_value_tables.specs.Truths.{ClaimTrue}
 use Rattle.grind_value_tables.proofs.Meanings.{PremisesHold, false≢one, false_unless, formula_value}

@@ -1,0 +1,3 @@
+pub mod LinearRules
+pub mod PolyRules
+pub mod ArithmeticCases

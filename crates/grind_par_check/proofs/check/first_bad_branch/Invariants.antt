@@ -1,7 +1,0 @@
-use Rattle.std.proofs.Common.{ℕ, ◌<◌}
-use Rattle.grind_proof_kernel.specs.Typing.{IsGoodBranch}
-use Rattle.grind_par_check.proofs.check.first_bad_branch.Given as goal
-
--- the branches so far are good
-abbrev pub invariant-loop-branch : goal.invariant-loop-branch
-invariant-loop-branch l = (b : ℕ) → b < l.branch → IsGoodBranch l.proof b

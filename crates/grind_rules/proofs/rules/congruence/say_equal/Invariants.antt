@@ -1,8 +1,0 @@
-use Rattle.std.proofs.Common.{◌↔◌, drop}
-use Rattle.grind_claims.specs.Claims.{claims_of}
-use Rattle.grind_rules.specs.Rules.{SayEqual}
-use Rattle.grind_rules.proofs.rules.congruence.say_equal.Given as goal
-
--- what is left says the same as the whole
-abbrev pub invariant-loop-premise : goal.invariant-loop-premise
-invariant-loop-premise l = SayEqual l.these l.those (claims_of (drop l.premise-index l.fn.premises)) ↔ SayEqual l.fn.left l.fn.right (claims_of l.fn.premises)

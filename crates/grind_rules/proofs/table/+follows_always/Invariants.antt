@@ -1,4 +1,0 @@
-use Rattle.grind_rules.proofs.table.+follows_always.Given as goal
-
-abbrev pub decreases-follows_always : goal.decreases-follows_always
-decreases-follows_always l = l.more

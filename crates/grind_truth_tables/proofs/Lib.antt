@@ -1,0 +1,5 @@
+pub mod TruthLemmas
+pub mod AssignmentLemmas
+pub mod FollowsLemmas
+pub mod NeededLemmas
+pub mod TableGrowth

@@ -1,0 +1,5 @@
+pub mod Tables
+pub mod Assignments
+pub mod Needed
+pub mod Laws
+pub mod TableCases
