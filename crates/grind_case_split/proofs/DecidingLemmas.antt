@@ -30,7 +30,8 @@ use Rattle.grind_congruence.specs.Exact.{pair_of}
 use Rattle.grind_congruence.proofs.ExactLemmas.{exact_at_rest}
 use Rattle.grind_explain.specs.declared.why.Why.{Why}
 use Rattle.grind_explain.specs.declared.why.Why.TheVariants as why
-use Rattle.grind_explain.specs.Explained.{IsReady, IsReason, HasReasons, Tells, Appends, EndsWith, AreJoinedWithin}
+use Rattle.grind_proof_writer.specs.Lines.{IsReady, Tells, Appends, EndsWith}
+use Rattle.grind_explain.specs.Explained.{IsReason, HasReasons, AreJoinedWithin}
 use Rattle.grind_case_split.specs.declared.fact.Fact.{Fact}
 use Rattle.grind_case_split.specs.Congruences.{IsGiven, IsNodeOf, FollowsFromGiven, CongruenceEntails}
 use Rattle.grind_case_split.specs.Writing.{IsRooted, Claims}
@@ -234,7 +235,7 @@ line_claims (line ∷ lines) (suc n) claim root e = line_claims lines n claim (�
 
 -- so it tells it in the root
 tells_claimed : (lemmas : Lemmas) (goal : GoalData) (proof : Proof) (line a b : ℕ) → IsRooted lemmas goal proof → Claims proof line (Same a b) →
-    Tells proof 0 line a b
+    Tells proof 0 line (Same a b)
 tells_claimed lemmas goal proof line a b rooted claims =
     some_and_then (λ (it : Line). (it.branch ≡ 0) × (it.claim ≡ Same a b))
     (λ (it : Line). Reaches proof.branches it.branch 0 × (it.claim ≡ Same a b)) (slice_get proof.lines line)
@@ -281,7 +282,7 @@ claim_of_some None claim h = absurd h
 claim_of_some (Some line) claim h = ap Some h.1
 
 -- what the last line claims
-pub ends_claims : (proof : Proof) (number a b : ℕ) → EndsWith proof 0 number a b → Claims proof number (Same a b)
+pub ends_claims : (proof : Proof) (number a b : ℕ) → EndsWith proof 0 number (Same a b) → Claims proof number (Same a b)
 ends_claims proof number a b h = claim_of_some (slice_get proof.lines number) (Same a b) h.1
 
 -- a formula that holds and fails, and two terms that are equal and different

@@ -7,7 +7,7 @@ use Rattle.grind_claims.specs.declared.proof.Line.{Line}
 use Rattle.grind_claims.specs.declared.proof.Proof.{Proof}
 use Rattle.grind_claims.specs.declared.proof.Rule.{Rule}
 use Rattle.grind_claims.specs.Claims.{claim_at}
-use Rattle.grind_explain.specs.Explained.{AreTyped}
+use Rattle.grind_proof_writer.specs.Lines.{AreTyped}
 
 -- a proof over the terms of the goal that has no branches but the root, and in which each line is typed
 pub record IsRooted (lemmas : Lemmas) (goal : GoalData) (proof : Proof) : Type 0 where

@@ -3,7 +3,8 @@ ghost use Rattle.std.specs.Prelude.{◌≡◌, ◌∷◌, ◌<◌, ℕ, [], All,
 ghost use Rattle.grind_classes.specs.Classes.{IsActive};
 ghost use Rattle.grind_congruence.specs.Congruence.{Fits};
 ghost use Rattle.grind_explain.specs.declared.why.Why.TheVariants.{Congruence};
-ghost use Rattle.grind_explain.specs.Explained.{IsReady, HasReasons};
+ghost use Rattle.grind_proof_writer.specs.Lines.{IsReady};
+ghost use Rattle.grind_explain.specs.Explained.{HasReasons};
 ghost use Rattle.grind_case_split.specs.Building.{HasEnds, IsClosure};
 ghost use Rattle.grind_case_split.specs.Given.{IsLedger, CoversAll};
 

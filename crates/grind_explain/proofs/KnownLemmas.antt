@@ -1,12 +1,12 @@
 -- Lines that tell the first edges of a closure.
-use Rattle.std.specs.Prelude.{◌≡◌, ◌≢◌, ℕ, zero, suc, ◌+◌, ◌<◌, ◌≤◌, List, [], ◌∷◌, ◌++◌, Option, Some, None, All, length, slice_get, take, get_or, refl}
+use Rattle.std.specs.Prelude.{◌≡◌, ◌≢◌, ℕ, zero, suc, ◌+◌, ◌<◌, ◌≤◌, List, [], ◌∷◌, ◌++◌, Option, Some, All, length, slice_get, take, get_or, refl}
 use Rattle.std.specs.List.{AllZip}
 use Rattle.std.specs.Option.{IsSomeAnd}
 use Rattle.std.proofs.Common.{arith, sym, ap, ◌∙◌, subst, inl, inr, append_assoc}
 use Rattle.std.proofs.lemmas.Bool.{cases_eq}
 use Rattle.std.proofs.lemmas.List.{append-nil}
 use Rattle.std.proofs.lemmas.List.Elements.{All-nil, All-cons, All-head, All-tail, All-same, All-weaker}
-use Rattle.std.proofs.lemmas.Option.{slice_get_within, get_or_from_slice_get, slice_get-get_or}
+use Rattle.std.proofs.lemmas.Option.{slice_get-get_or}
 use Rattle.grind_term_graph.specs.declared.node.Node.{Node}
 use Rattle.grind_term_graph.specs.Terms.{Terms}
 use Rattle.grind_schemes.specs.Goals.{GoalData}
@@ -24,9 +24,11 @@ use Rattle.grind_congruence.specs.Edges.{Leads, Joins, AreClassesOf}
 use Rattle.grind_congruence.proofs.EdgeLemmas.{All-at, Joins-all, Leads-below, Leads-take, slice_get-more, slice_get-last}
 use Rattle.grind_explain.specs.declared.why.Why.{Why}
 use Rattle.grind_explain.specs.declared.why.Why.TheVariants as why
-use Rattle.grind_explain.specs.Explained.{IsReady, Tells, AreJoinedWithin, IsReason, HasReasons, IsFewest, Appends, EndsWith}
-use Rattle.grind_explain.specs.Deriving.{IsUsable, IsKnown, AreKnown, AreTold, IsBound, IsHalfTold, AreKnownSoFar}
-use Rattle.grind_explain.proofs.LineLemmas.{Appends-none, Appends-through, Tells-stays, IsUsable-tells, claim_at-tells, one_more}
+use Rattle.grind_proof_writer.specs.Lines.{IsReady, IsUsable, Tells, Appends}
+use Rattle.grind_proof_writer.proofs.ListLemmas.{one_more}
+use Rattle.grind_explain.specs.Explained.{AreJoinedWithin, IsReason, HasReasons, IsFewest}
+use Rattle.grind_explain.specs.Deriving.{IsKnown, AreKnown, AreTold, IsBound, IsHalfTold, AreKnownSoFar}
+use Rattle.grind_proof_writer.proofs.LineLemmas.{Appends-none, Appends-through, Tells-stays, IsUsable-tells, claim_at-tells}
 use Rattle.grind_explain.proofs.ChainLemmas.{IsKnown-stays}
 
 -- what some of the edges join is together
@@ -69,7 +71,7 @@ pub IsHalfTold-step : (lemmas : Lemmas) (goal : GoalData) (old now new : Proof) 
     (known lefts rights left left_tail right right_tail numbers longer : List ℕ) (a b number : ℕ) →
     left ≡ a ∷ left_tail → right ≡ b ∷ right_tail → longer ≡ numbers ++ number ∷ [] →
     IsHalfTold lemmas goal old now branch closure known lefts rights left right numbers →
-    Appends lemmas goal now new branch → IsReady lemmas goal new branch → Tells new branch number a b →
+    Appends lemmas goal now new branch → IsReady lemmas goal new branch → Tells new branch number (Same a b) →
     IsHalfTold lemmas goal old new branch closure known lefts rights left_tail right_tail longer
 IsHalfTold-step lemmas goal old now new branch closure known lefts rights left left_tail right right_tail numbers longer a b number
     left_is right_is longer_is h grown ready tells = record {
@@ -82,7 +84,7 @@ IsHalfTold-step lemmas goal old now new branch closure known lefts rights left l
       joined = zip_others (Joins closure.edges (length known)) left left_tail right right_tail a b left_is right_is h.joined;
       told = λ later more behind rest.
           let whole : AreTold later branch (a ∷ left_tail) (b ∷ right_tail) (number ∷ more) =
-          (Tells-stays lemmas goal new later branch number a b behind tells, rest) in
+          (Tells-stays lemmas goal new later branch number (Same a b) behind tells, rest) in
           let there : AreTold later branch left right (number ∷ more) =
           subst (λ (xs : List ℕ). AreTold later branch xs right (number ∷ more)) (sym left_is)
           (subst (λ (ys : List ℕ). AreTold later branch (a ∷ left_tail) ys (number ∷ more)) (sym right_is) whole) in
@@ -113,7 +115,7 @@ pub AreTold-usable : (proof : Proof) (branch : ℕ) (lefts rights numbers : List
     All (IsUsable proof branch) numbers
 AreTold-usable proof branch [] [] [] h = All-nil (IsUsable proof branch)
 AreTold-usable proof branch (a ∷ lefts) (b ∷ rights) (n ∷ numbers) h =
-    All-cons (IsUsable proof branch) n numbers (IsUsable-tells proof branch n a b h.0) (AreTold-usable proof branch lefts rights numbers h.1)
+    All-cons (IsUsable proof branch) n numbers (IsUsable-tells proof branch n (Same a b) h.0) (AreTold-usable proof branch lefts rights numbers h.1)
 AreTold-usable proof branch [] [] (n ∷ numbers) h = absurd h
 AreTold-usable proof branch [] (b ∷ rights) numbers h = absurd h
 AreTold-usable proof branch (a ∷ lefts) [] numbers h = absurd h
@@ -125,7 +127,7 @@ AreTold-say : (proof : Proof) (branch : ℕ) (lefts rights numbers : List ℕ) �
 AreTold-say proof branch [] [] [] h = ([], tt, tt)
 AreTold-say proof branch (a ∷ lefts) (b ∷ rights) (n ∷ numbers) h =
     let rest = AreTold-say proof branch lefts rights numbers h.1 in
-    (Same a b ∷ rest.0, (claim_at-tells proof branch n a b h.0, rest.1), (refl, rest.2))
+    (Same a b ∷ rest.0, (claim_at-tells proof branch n (Same a b) h.0, rest.1), (refl, rest.2))
 AreTold-say proof branch [] [] (n ∷ numbers) h = absurd h
 AreTold-say proof branch [] (b ∷ rights) numbers h = absurd h
 AreTold-say proof branch (a ∷ lefts) [] numbers h = absurd h
@@ -183,7 +185,7 @@ reason_read P whys number other reason is h =
 IsReason-stays : (lemmas : Lemmas) (goal : GoalData) (old new : Proof) (branch : ℕ) (edges : List Edge) (place : ℕ) (edge : Edge) (reason : Why) →
     Appends lemmas goal old new branch → IsReason old branch edges place edge reason → IsReason new branch edges place edge reason
 IsReason-stays lemmas goal old new branch edges place edge (why.Line number) grown h =
-    Tells-stays lemmas goal old new branch number edge.left edge.right grown h
+    Tells-stays lemmas goal old new branch number (Same edge.left edge.right) grown h
 IsReason-stays lemmas goal old new branch edges place edge why.Congruence grown h =
     subst (λ (terms : Terms). AreJoinedWithin terms.nodes edges place edge.left edge.right) (sym grown.terms) h
 
@@ -226,7 +228,7 @@ AreKnownSoFar-start lemmas goal proof branch closure whys count ready fits reaso
 pub AreKnownSoFar-step : (lemmas : Lemmas) (goal : GoalData) (old now new : Proof) (branch : ℕ) (closure : Congruence) (whys : List Why)
     (count place number : ℕ) (known longer : List ℕ) (edge : Edge) → slice_get closure.edges (length known) ≡ Some edge →
     longer ≡ known ++ number ∷ [] → AreKnownSoFar lemmas goal old now branch closure whys count place known →
-    Appends lemmas goal now new branch → IsReady lemmas goal new branch → Tells new branch number edge.left edge.right →
+    Appends lemmas goal now new branch → IsReady lemmas goal new branch → Tells new branch number (Same edge.left edge.right) →
     AreKnownSoFar lemmas goal old new branch closure whys count (place + 1) longer
 AreKnownSoFar-step lemmas goal old now new branch closure whys count place number known longer edge stands longer_is h grown ready tells =
     let more : List ℕ = known ++ number ∷ [] in

@@ -1,4 +1,3 @@
-pub mod LineLemmas
 pub mod ChainLemmas
 pub mod BoundLemmas
 pub mod KnownLemmas

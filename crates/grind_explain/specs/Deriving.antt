@@ -1,28 +1,35 @@
 -- What the derivation of an equality keeps. No public clause cites these words.
-use Rattle.std.specs.Prelude.{◌≡◌, ℕ, ◌+◌, ◌<◌, ◌≤◌, List, [], ◌∷◌, Some, All, ◌++◌, length, slice_get}
+use Rattle.std.specs.Prelude.{◌≡◌, ℕ, ◌+◌, ◌<◌, ◌≤◌, List, [], ◌∷◌, Some, All, ◌++◌, length, slice_get, ◌⊎◌}
 use Rattle.std.specs.Option.{IsSomeAnd}
 use Rattle.std.specs.List.{AllZip}
 use Rattle.grind_schemes.specs.Goals.{GoalData}
 use Rattle.grind_schemes.specs.declared.lemmas.Lemmas.{Lemmas}
+use Rattle.grind_claims.specs.declared.claim.Claim.TheVariants.{Same}
 use Rattle.grind_claims.specs.declared.proof.Line.{Line}
 use Rattle.grind_claims.specs.declared.proof.Proof.{Proof}
-use Rattle.grind_proof_kernel.specs.Typing.{Reaches}
 use Rattle.grind_classes.specs.Classes.{IsActive}
 use Rattle.grind_congruence.specs.declared.edge.Edge.{Edge}
 use Rattle.grind_congruence.specs.Congruence.{Congruence, Fits}
-use Rattle.grind_congruence.specs.Edges.{Leads, Joins}
+use Rattle.grind_congruence.specs.Edges.{Passes, Leads, Joins}
 use Rattle.grind_explain.specs.declared.why.Why.{Why}
-use Rattle.grind_explain.specs.Explained.{IsReady, Tells, HasReasons, Appends}
+use Rattle.grind_proof_writer.specs.Lines.{IsReady, Tells, Appends}
+use Rattle.grind_proof_writer.specs.declared.equality.Equality.{Equality}
+use Rattle.grind_explain.specs.Explained.{HasReasons}
 
--- the line of that number may be used in the branch
-abbrev pub IsUsable : Proof → ℕ → ℕ → Type 0
-IsUsable proof branch number = IsSomeAnd (slice_get proof.lines number) (λ (line : Line). Reaches proof.branches line.branch branch)
+-- the edge at that place passes from this node to that one
+abbrev pub PassesAt : List Edge → ℕ → ℕ → ℕ → Type 0
+PassesAt edges place here next = (edge : Edge) × (slice_get edges place ≡ Some edge) × Passes edge here next
+
+-- the equality is of these two nodes, in one of both directions
+abbrev pub HasEnds : Equality → ℕ → ℕ → Type 0
+HasEnds equality here next =
+    ((equality.left ≡ here) × (equality.right ≡ next)) ⊎ ((equality.right ≡ here) × (equality.left ≡ next))
 
 -- the edge at that place is told by the line that is written for it
 abbrev pub IsKnown : Proof → ℕ → List Edge → List ℕ → ℕ → Type 0
 IsKnown proof branch edges known place =
     (number : ℕ) × (edge : Edge) × (slice_get known place ≡ Some number) × (slice_get edges place ≡ Some edge)
-    × Tells proof branch number edge.left edge.right
+    × Tells proof branch number (Same edge.left edge.right)
 
 -- each edge for which a line is written is told by it
 abbrev pub AreKnown : Proof → ℕ → List Edge → List ℕ → Type 0
@@ -31,7 +38,7 @@ AreKnown proof branch edges known = (place : ℕ) → place < length known → I
 -- the lines tell that these are equal to those, one by one
 abbrev pub AreTold : Proof → ℕ → List ℕ → List ℕ → List ℕ → Type 0
 AreTold proof branch [] [] [] = Unit {0}
-AreTold proof branch (a ∷ xs) (b ∷ ys) (n ∷ ns) = Tells proof branch n a b × AreTold proof branch xs ys ns
+AreTold proof branch (a ∷ xs) (b ∷ ys) (n ∷ ns) = Tells proof branch n (Same a b) × AreTold proof branch xs ys ns
 AreTold proof branch [] [] (n ∷ ns) = ⊥
 AreTold proof branch [] (b ∷ ys) ns = ⊥
 AreTold proof branch (a ∷ xs) [] ns = ⊥
@@ -58,7 +65,7 @@ pub record IsOnWay (lemmas : Lemmas) (goal : GoalData) (old now : Proof) (branch
     (number a here b : ℕ) : Type 0 where
   pub appends : Appends lemmas goal old now branch
   pub ready : IsReady lemmas goal now branch
-  pub tells : Tells now branch number a here
+  pub tells : Tells now branch number (Same a here)
   pub leads : Leads edges rest here b
   pub edges_known : All (IsKnown now branch edges known) rest
 

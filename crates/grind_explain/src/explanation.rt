@@ -1,17 +1,20 @@
 //! The explanation of one equality.
 ghost use Rattle.std.specs.Prelude.{ℕ, ◌<◌, ◌↔◌, IsTrue, IfOk, length};
+ghost use Rattle.grind_claims.specs.declared.claim.Claim.TheVariants.{Same};
 ghost use Rattle.grind_classes.specs.Classes.{AreTogether};
 ghost use Rattle.grind_congruence.specs.Congruence.{Fits};
-ghost use Rattle.grind_explain.specs.Explained.{IsReady, IsFewest, HasReasons, Tells, Appends, EndsWith};
+ghost use Rattle.grind_proof_writer.specs.Lines.{IsReady, Tells, Appends, EndsWith};
+ghost use Rattle.grind_proof_writer.specs.Writing.{CanWrite, Writes, IsTold};
+ghost use Rattle.grind_explain.specs.Explained.{IsFewest, HasReasons};
 ghost use Rattle.grind_explain.specs.Deriving.{IsBound, IsLast};
 
-use crate::chain::chain;
-use crate::known::known_lines;
-use crate::lines::{reflexive, transitive};
+use crate::chain::Way;
+use crate::known::Course;
 use crate::why::Why;
 use grind_congruence::Closure;
 use grind_outside::{List, Memory};
 use grind_proof_kernel::Proof;
+use grind_proof_writer::{Equality, Writer};
 use grind_schemes::{Goal, Lemmas};
 use grind_term_graph::NodeId;
 use std::alloc::Global;
@@ -41,60 +44,57 @@ pub fn explain(
         → HasReasons proof.old branch closure.now.edges whys.now count }
     ensures appends { Appends lemmas.now goal.now proof.old proof.new branch }
     ensures ready { IsReady lemmas.now goal.now proof.new branch }
-    ensures last { IfOk result (λ number. EndsWith proof.new branch number a b) }
+    ensures last { IfOk result (λ number. EndsWith proof.new branch number (Same a b)) }
 {
+    let writer = Writer {
+        alloc,
+        lemmas,
+        goal,
+        branch,
+    };
+    let course = Course {
+        writer: &writer,
+        closure,
+        whys: whys.as_slice(),
+    };
     let edges = closure.edges();
     let places = closure.path(alloc, a, b)?;
     let count = bound_of(places.as_slice());
-    let known = known_lines(
-        alloc,
-        closure,
-        whys.as_slice(),
-        lemmas,
-        goal,
-        proof,
-        branch,
-        count,
-    )?;
-    let number = chain(
-        alloc,
-        lemmas,
-        goal,
-        proof,
-        branch,
+    let known = course.known_lines(proof, count)?;
+    let way = Way {
+        writer: &writer,
         edges,
-        known.as_slice(),
-        places.as_slice(),
-        a,
-        b,
-    )?;
-    let last = at_the_end(alloc, lemmas, goal, proof, branch, number, a, b)?;
+        known: known.as_slice(),
+    };
+    let number = way.chain(proof, places.as_slice(), a, b)?;
+    let told = Equality {
+        line: number,
+        left: a,
+        right: b,
+    };
+    let last = at_the_end(&writer, proof, &told)?;
     Ok(last)
 }
 
-// The last line, once it claims that two nodes are equal, which a line tells already.
-fn at_the_end(
-    alloc: Global,
-    lemmas: &Lemmas,
-    goal: &Goal,
-    proof: &mut Proof,
-    branch: u32,
-    number: u32,
-    a: NodeId,
-    b: NodeId,
-) -> Result<u32, Memory>
-    requires ready { IsReady lemmas.now goal.now proof.old branch }
-    requires within { b < length proof.old.terms.nodes }
-    requires tells { Tells proof.old branch number a b }
-    ensures appends { Appends lemmas.now goal.now proof.old proof.new branch }
-    ensures ready { IsReady lemmas.now goal.now proof.new branch }
-    ensures last { IfOk result (λ last. EndsWith proof.new branch last a b) }
+// The last line, once it claims what a line tells already.
+fn at_the_end(writer: &Writer, proof: &mut Proof, told: &Equality) -> Result<u32, Memory>
+    requires ready { CanWrite writer.now proof.old }
+    requires within { told.now.right < length proof.old.terms.nodes }
+    requires told { IsTold writer.now proof.old told.now }
+    ensures writes { Writes writer.now proof.old proof.new }
+    ensures ready { CanWrite writer.now proof.new }
+    ensures ends { IfOk result (λ last. EndsWith proof.new writer.now.branch last (Same told.now.left told.now.right)) }
 {
-    if is_last(proof, branch, number) {
-        return Ok(number);
+    if is_last(proof, writer.branch, told.line) {
+        return Ok(told.line);
     }
-    let same = reflexive(alloc, lemmas, goal, proof, branch, b)?;
-    let last = transitive(alloc, lemmas, goal, proof, branch, number, same, a, b, b)?;
+    let line = writer.reflexive(proof, told.right)?;
+    let same = Equality {
+        line,
+        left: told.right,
+        right: told.right,
+    };
+    let last = writer.transitive(proof, told, &same)?;
     Ok(last)
 }
 

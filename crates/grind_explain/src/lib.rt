@@ -4,7 +4,6 @@
 mod chain;
 pub mod explanation;
 mod known;
-mod lines;
 pub mod why;
 
 pub use explanation::explain;

@@ -1,10 +1,11 @@
 use Rattle.std.specs.Prelude.{length}
 use Rattle.grind_explain.specs.Deriving.{IsOnWay}
-use Rattle.grind_explain.proofs.chain.chain_from.Given as goal
+use Rattle.grind_explain.proofs.chain.Way.go_along.Given as goal
 
 abbrev pub invariant-loop-place : goal.invariant-loop-place
 invariant-loop-place l =
-    IsOnWay l.fn.lemmas l.fn.goal l.fn.proof l.proof l.fn.branch l.fn.edges l.fn.known l.rest l.number l.fn.a l.here l.fn._b
+    IsOnWay l.fn.self.writer.now.lemmas.now l.fn.self.writer.now.goal.now l.fn.proof l.proof l.fn.self.writer.now.branch l.fn.self.edges.now
+    l.fn.self.known.now l.rest l.number l.a l.here l.fn._b
 
 abbrev pub decreases-loop-place : goal.decreases-loop-place
 decreases-loop-place l = length l.rest
