@@ -1,5 +1,5 @@
 use Rattle.std.proofs.Common.{◌-◌, ◌/◌, arith}
-use Rattle.grind_proof_kernel.proofs.Pairs.{first_in_pair, second_in_pair}
+use Rattle.grind_proof_kernel.proofs.PlaceLemmas.{first_in_pair, second_in_pair}
 use Rattle.grind_proof_kernel.proofs.branches.is_in_pair.Goals as goal
 
 pub returns-then-branch-pair : goal.returns-then-branch-pair
