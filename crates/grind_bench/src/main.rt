@@ -2,13 +2,15 @@
 //! lines checked by so many jobs (with 0 jobs the checker of one thread does it), `tree SIZE JOBS`, one of so many pairs of
 //! branches, `tables FILE SIZE`, one of so many `table` lines for the file's first goal, which name its last hypothesis, or `linear FILE`,
 //! `poly FILE` or `normal FILE`: the readings of the left side of the conclusion of the file's first goal, and the normal form of the
-//! last by the differences of the sides of the hypotheses. The microseconds that the work took are written to standard error.
+//! last by the differences of the sides of the hypotheses, or `form_pairs FILE` or `poly_pairs FILE`: how many hypotheses
+//! have sides whose readings have a difference, all read in one pass. The microseconds that the work took are written to standard error.
 #![tactic(auto)]
 
 ghost use Rattle.std.specs.Prelude.{IfOk};
 ghost use Rattle.grind_proof_kernel.specs.Typing.{HasTerms};
 
 mod chains;
+mod pairs;
 mod readings;
 mod tables;
 mod trees;
@@ -20,6 +22,7 @@ use grind_par_check::check_parallel;
 use grind_proof_kernel::{Proof, Verdict, check};
 use grind_schemes::{Goal, Lemmas};
 use grind_theory::Theory;
+use pairs::{form_pairs, poly_pairs};
 use readings::{are_nonzero, basis_of, left_side, parts_of, rest_of, sides_of, terms_of};
 use std::alloc::Global;
 use std::env;
@@ -42,15 +45,19 @@ const MOST_PAIRS: u32 = 1_000_000;
 /// A theory file has at most so many bytes.
 const LONGEST: u64 = 4_194_304;
 
-/// How a term is read.
+/// How terms are read.
 #[derive(Clone, Copy)]
-enum Reading {
+enum ReadAs {
     /// As a linear form.
     Linear,
     /// As a polynomial.
     Polynomial,
     /// As the normal form of one.
     Normal,
+    /// Many, as linear forms, for their differences.
+    FormPairs,
+    /// Many, as polynomials, for their differences.
+    PolyPairs,
 }
 
 /// What the words ask for.
@@ -63,7 +70,7 @@ enum Work {
     /// A proof of so many `table` lines, for the first goal of the file, is checked.
     Tables { name: String, size: u32 },
     /// A term of the file is read.
-    Read { reading: Reading, name: String },
+    Read { reading: ReadAs, name: String },
 }
 
 /// What came of it: how much was made, where something was, and how many microseconds it took.
@@ -138,11 +145,13 @@ fn proof_of(family: &str, size: &str, jobs: &str) -> Option<Work> {
 }
 
 /// The reading of that name.
-fn reading_of(word: &str) -> Option<Reading> {
+fn reading_of(word: &str) -> Option<ReadAs> {
     match word {
-        "linear" => Some(Reading::Linear),
-        "poly" => Some(Reading::Polynomial),
-        "normal" => Some(Reading::Normal),
+        "linear" => Some(ReadAs::Linear),
+        "poly" => Some(ReadAs::Polynomial),
+        "normal" => Some(ReadAs::Normal),
+        "form_pairs" => Some(ReadAs::FormPairs),
+        "poly_pairs" => Some(ReadAs::PolyPairs),
         _ => None,
     }
 }
@@ -255,7 +264,7 @@ fn judged<R: Threads + Sync>(
 /// Reads a term of the file's first goal.
 fn read<R: Clock + Files + AllocGlobal>(
     rt: &R,
-    reading: Reading,
+    reading: ReadAs,
     name: &str,
 ) -> Result<Outcome, Memory> {
     let alloc = rt.alloc();
@@ -265,24 +274,25 @@ fn read<R: Clock + Files + AllocGlobal>(
     let Some(goal) = theory.goals.as_slice().first() else {
         return Err(Memory);
     };
+    if let ReadAs::Normal = reading {
+        return reduced(rt, alloc, goal);
+    }
+    let start = Instant::now(rt);
+    let count = counted(alloc, goal, reading)?;
+    Ok(Outcome {
+        count,
+        micros: since(rt, start),
+    })
+}
+
+/// How much a reading of the goal's terms makes.
+fn counted(alloc: Global, goal: &Goal, reading: ReadAs) -> Result<Option<usize>, Memory> {
     match reading {
-        Reading::Linear => {
-            let start = Instant::now(rt);
-            let count = parts_of(alloc, goal)?;
-            Ok(Outcome {
-                count,
-                micros: since(rt, start),
-            })
-        }
-        Reading::Polynomial => {
-            let start = Instant::now(rt);
-            let count = terms_of(alloc, goal)?;
-            Ok(Outcome {
-                count,
-                micros: since(rt, start),
-            })
-        }
-        Reading::Normal => reduced(rt, alloc, goal),
+        ReadAs::Linear => parts_of(alloc, goal),
+        ReadAs::Polynomial => terms_of(alloc, goal),
+        ReadAs::Normal => Ok(None),
+        ReadAs::FormPairs => form_pairs(alloc, goal),
+        ReadAs::PolyPairs => poly_pairs(alloc, goal),
     }
 }
 

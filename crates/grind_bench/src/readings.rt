@@ -3,8 +3,9 @@ ghost use Rattle.std.specs.Prelude.{◌≡◌, ◌≢◌, ◌↔◌, [], IsTrue,
 ghost use Rattle.grind_term_graph.specs.Terms.{int, sort_at};
 
 use grind_linear_forms::{FormRefusal, linear_of};
+use grind_normal_forms::normal;
 use grind_outside::{List, Memory};
-use grind_polynomials::{Poly, PolyRefusal, add_product, normal, poly_of};
+use grind_polynomials::{Poly, PolyRefusal, add_product, poly_of};
 use grind_schemes::Goal;
 use grind_term_graph::{NodeId, SortId, TermTable};
 use std::alloc::Global;
@@ -140,7 +141,7 @@ fn polynomial(alloc: Global, terms: &TermTable, node: NodeId) -> Result<Option<P
 }
 
 /// Whether the node is a whole number.
-fn is_number(terms: &TermTable, node: NodeId) -> bool
+pub fn is_number(terms: &TermTable, node: NodeId) -> bool
     ensures { IsTrue result → sort_at terms.now.nodes node ≡ Some int }
 {
     node.number() < terms.len() && terms.sort(node) == SortId::INT
