@@ -12,7 +12,7 @@ use Rattle.grind_linear_forms.specs.Readings.{readings, linear}
 use Rattle.grind_monomials.specs.Order.{place, place_by_nodes}
 use Rattle.grind_monomials.specs.Monomials.{product, product_from}
 use Rattle.grind_polynomials.specs.declared.poly.Term.{Term}
-use Rattle.grind_polynomials.specs.Polynomials.{term_of, fit as fit_number}
+use Rattle.grind_polynomials.specs.Polynomials.{term_of, fit_or_refuse as fit_number}
 use Rattle.grind_polynomials.specs.Readings.{readings as poly_readings, polynomial}
 use Rattle.grind_polynomials.specs.Sums.{with_more, with_multiple, with_multiples, with_product, with_products, with_all_products}
 use Rattle.grind_differences.specs.Differences.{reading, difference, poly_reading, poly_difference}

@@ -1,10 +1,11 @@
 -- Which tables of values respect the meaning of the terms. A table gives one whole number to each node: a formula has
 -- 1 where it is true and 0 where it is false, and a node of another sort stands for some number.
-use Rattle.std.specs.Prelude.{◌≡◌, ℕ, ◌↔◌, ◌⊎◌, List, [], ◌∷◌, Some, map, slice_get, ℤ, pos, ◌+ℤ◌, ◌*ℤ◌, neg_ℤ, ◌≤ℤ◌}
+use Rattle.std.specs.Prelude.{◌≡◌, ℕ, ◌↔◌, ◌⊎◌, List, Some, map, slice_get, ℤ, pos, ◌+ℤ◌, ◌*ℤ◌, neg_ℤ, ◌≤ℤ◌}
 use Rattle.grind_term_graph.specs.declared.head.Head.{Head}
 use Rattle.grind_term_graph.specs.declared.head.Head.TheVariants as head
 use Rattle.grind_term_graph.specs.declared.node.Node.{Node}
 use Rattle.grind_term_graph.specs.Terms.{prop}
+pub use Rattle.grind_linear_forms.specs.Values.{OfOne, OfTwo}
 
 -- the value of what is true, and of what is false
 abbrev pub one : ℤ
@@ -16,19 +17,6 @@ zero_value = pos 0
 -- the value of a formula: 0 or 1
 abbrev pub IsTruthValue : ℤ → Type 0
 IsTruthValue value = (value ≡ zero_value) ⊎ (value ≡ one)
-
--- there is one value, and this holds of it
-abbrev pub OfOne : (ℤ → Type 0) → List ℤ → Type 0
-OfOne P [] = ⊥
-OfOne P (a ∷ []) = P a
-OfOne P (a ∷ b ∷ rest) = ⊥
-
--- there are two values, and this holds of them
-abbrev pub OfTwo : (ℤ → ℤ → Type 0) → List ℤ → Type 0
-OfTwo P [] = ⊥
-OfTwo P (a ∷ []) = ⊥
-OfTwo P (a ∷ b ∷ []) = P a b
-OfTwo P (a ∷ b ∷ c ∷ rest) = ⊥
 
 -- a term of this head, with arguments of these values, may have this value: connectives by their truth tables, equality and
 -- order where they hold of the values, and arithmetic as it is. What a function or a constant is the head alone does not say.
