@@ -27,6 +27,7 @@ FILES = {
     "grind_rules": ["Tables", "LinearRules", "PolyRules", "Rules", "Laws"],
     "grind_proof_kernel": ["Typing", "Judgement", "Laws"],
     "grind_par_check": ["Judges", "Laws"],
+    "grind_proof_writer": ["Lines", "Branches", "Writing", "Laws"],
     "grind_explain": ["Explained"],
     "grind_ematch": ["Matches"],
     "grind_truth_prop": ["Kernel", "Given", "Evidence", "Classed", "Sides", "Equations", "Connectives", "Splits", "Steps", "Laws"],
