@@ -31,6 +31,7 @@ FILES = {
     "grind_rules": ["Rules", "Laws"],
     "grind_proof_kernel": ["Literals", "Typing", "Judgement", "Laws"],
     "grind_par_check": ["Judges", "Laws"],
+    "grind_proof_writer": ["Lines", "Branches", "Writing", "Laws"],
     "grind_explain": ["Explained"],
     "grind_ematch": ["Matches"],
     "grind_truth_prop": ["Kernel", "Given", "Evidence", "Classed", "Sides", "Equations", "Connectives", "Splits", "Steps", "Laws"],
