@@ -3,8 +3,9 @@ ghost use Rattle.std.specs.Prelude.{◌≡◌, ◌≢◌, ◌↔◌, [], IsTrue,
 ghost use Rattle.grind_term_graph.specs.Terms.{int, sort_at};
 
 use grind_linear_forms::{FormRefusal, linear_of};
+use grind_normal_forms::normal;
 use grind_outside::{List, Memory};
-use grind_polynomials::{Poly, PolyRefusal, add_product, normal, poly_of};
+use grind_polynomials::{Poly, PolyRefusal, add_product, poly_of};
 use grind_schemes::Goal;
 use grind_term_graph::{NodeId, SortId, TermTable};
 use std::alloc::Global;
@@ -12,8 +13,10 @@ use std::alloc::Global;
 /// The sides of an equation of whole numbers.
 #[derive(Clone, Copy)]
 pub struct Sides {
-    left: NodeId,
-    right: NodeId,
+    /// The first.
+    pub left: NodeId,
+    /// The second.
+    pub right: NodeId,
 }
 
 /// How many parts the reading of the conclusion's left side has as a linear form, where it has one.
@@ -138,14 +141,14 @@ fn polynomial(alloc: Global, terms: &TermTable, node: NodeId) -> Result<Option<P
 }
 
 /// Whether the node is a whole number.
-fn is_number(terms: &TermTable, node: NodeId) -> bool
+pub fn is_number(terms: &TermTable, node: NodeId) -> bool
     ensures { IsTrue result → sort_at terms.now.nodes node ≡ Some int }
 {
     node.number() < terms.len() && terms.sort(node) == SortId::INT
 }
 
 /// The two arguments of a node, where there are two.
-fn sides_of(terms: &TermTable, node: NodeId) -> Option<Sides> {
+pub fn sides_of(terms: &TermTable, node: NodeId) -> Option<Sides> {
     if node.number() >= terms.len() {
         return None;
     }

@@ -2,10 +2,9 @@
 ghost use Rattle.std.specs.Prelude.{◌≡◌, [], ◌∷◌, Some, IsTrue};
 ghost use Rattle.grind_term_graph.specs.Terms.{int, sort_at};
 
+use grind_normal_forms::{Factors, Reduced, factors_of, normal, s_poly};
 use grind_outside::List;
-use grind_polynomials::{
-    Factors, Poly, PolyRefusal, Reduced, add_product, factors_of, normal, poly_of, s_poly,
-};
+use grind_polynomials::{Poly, PolyRefusal, add_product, poly_of};
 use grind_term_graph::{Args, Head, Node, NodeId, SortId, TermRefusal, TermTable};
 use std::alloc::Global;
 use std::test::Fail;

@@ -7,15 +7,3 @@ pub mod RunningLemmas
 pub mod SumValues
 pub mod Degrees
 pub mod ReadingLemmas
-pub mod Divisors
-pub mod PairLemmas
-pub mod ReductionLemmas
-pub mod RankLemmas
-pub mod Descent
-pub mod ContentLemmas
-pub mod NormalLemmas
-pub mod GatherLemmas
-pub mod FactorLemmas
-pub mod FinalTerms
-pub mod FinalLists
-pub mod FinalLemmas

@@ -8,10 +8,4 @@ pub mod Rows
 pub mod RowCases
 pub mod Values
 pub mod Readings
-pub mod Pairs
-pub mod Reduction
-pub mod Ranks
-pub mod Gathering
-pub mod FinalFactors
-pub mod FinalCases
 pub mod Laws

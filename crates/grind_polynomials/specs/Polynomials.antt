@@ -27,6 +27,15 @@ abbrev pub degree : List Term → ℕ
 degree [] = 0
 degree (term ∷ rest) = length term.monomial
 
+-- the coefficient and the monomial of the first term, which is the greatest
+abbrev pub lead_coefficient : List Term → ℤ
+lead_coefficient [] = pos 0
+lead_coefficient (term ∷ rest) = term.coefficient
+
+abbrev pub lead_monomial : List Term → List ℕ
+lead_monomial [] = []
+lead_monomial (term ∷ rest) = term.monomial
+
 -- a degree that no product may have
 abbrev pub is_over : ℕ → Bool
 is_over degree = nat_lt 16 degree

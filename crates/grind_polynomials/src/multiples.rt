@@ -14,8 +14,13 @@ use grind_outside::List;
 use grind_term_graph::NodeId;
 use std::alloc::Global;
 
-// Each product of a coefficient and a monomial with one of the terms, added in turn or taken off.
-pub(crate) fn add_multiples(
+/// Each product of a coefficient and a monomial with one of the terms, added in turn or taken off.
+///
+/// # Errors
+///
+/// `Overflow` exactly where the first number that does not fit in 128 bits is met. `Degree` never comes, and `Memory` comes
+/// where there is none.
+pub fn add_multiples(
     alloc: Global,
     minus: bool,
     coefficient: i128,

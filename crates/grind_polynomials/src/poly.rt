@@ -1,8 +1,7 @@
 //! A polynomial.
 ghost use Rattle.std.specs.Prelude.{◌≡◌, ◌≢◌, ◌<◌, ◌^◌, [], pos, IfOk};
 ghost use Rattle.grind_monomials.specs.Monomials.{IsMonomial};
-ghost use Rattle.grind_polynomials.specs.Pairs.{lead_coefficient, lead_monomial};
-ghost use Rattle.grind_polynomials.specs.Polynomials.{IsPoly, degree};
+ghost use Rattle.grind_polynomials.specs.Polynomials.{IsPoly, degree, lead_coefficient, lead_monomial};
 ghost use Rattle.grind_polynomials.specs.Readings.{number_poly, node_poly};
 
 use grind_outside::{List, Memory};

@@ -21,8 +21,13 @@ pub(crate) struct Parts {
     pub(crate) rest: List<Term>,
 }
 
-// The terms with a multiple of a monomial more, or less.
-pub(crate) fn put(
+/// The terms with a multiple of a monomial more, or less.
+///
+/// # Errors
+///
+/// `Overflow` exactly where the coefficient does not fit in 128 bits then. `Degree` never comes, and `Memory` comes where there
+/// is none.
+pub fn add_monomial(
     alloc: Global,
     minus: bool,
     coefficient: i128,

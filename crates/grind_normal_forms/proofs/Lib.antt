@@ -1,0 +1,12 @@
+pub mod Divisors
+pub mod PairLemmas
+pub mod ReductionLemmas
+pub mod RankLemmas
+pub mod Descent
+pub mod ContentLemmas
+pub mod NormalLemmas
+pub mod GatherLemmas
+pub mod FactorLemmas
+pub mod FinalTerms
+pub mod FinalLists
+pub mod FinalLemmas

@@ -1,5 +1,0 @@
-use Rattle.grind_polynomials.proofs.FactorLemmas.{value-factors}
-use Rattle.grind_polynomials.proofs.laws.factors_have_their_values.Goals as goal
-
-pub returns : goal.returns
-returns c = λ v basis p factors normal one two. value-factors v basis p factors normal one two

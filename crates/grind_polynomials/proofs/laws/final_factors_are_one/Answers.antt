@@ -1,5 +1,0 @@
-use Rattle.grind_polynomials.proofs.FinalLemmas.{final-one}
-use Rattle.grind_polynomials.proofs.laws.final_factors_are_one.Goals as goal
-
-pub returns : goal.returns
-returns c = final-one

@@ -1,5 +1,0 @@
-use Rattle.grind_polynomials.proofs.NormalLemmas.{reduces-one}
-use Rattle.grind_polynomials.proofs.laws.reductions_have_one_answer.Goals as goal
-
-pub returns : goal.returns
-returns c = reduces-one
