@@ -3,3 +3,4 @@ mod CutLemmas
 mod PolyLemmas
 mod FormLemmas
 mod ValueLemmas
+pub mod HeldLemmas

@@ -3,3 +3,4 @@ pub mod Differences
 pub mod Equations
 pub mod Laws
 pub mod DifferenceCases
+pub mod Held

@@ -58,7 +58,7 @@ pub fn difference(
 }
 
 /// The first form less the second, where it is defined.
-fn less(alloc: Global, left: &Form, right: &Form) -> Result<Option<Form>, Memory>
+pub(crate) fn less(alloc: Global, left: &Form, right: &Form) -> Result<Option<Form>, Memory>
     ensures { IfOk result (λ found. found ≡ scaled_sum left.now (pos 1) right.now (negsuc 0)) }
 {
     match add_scaled(alloc, left, 1, right, -1) {
@@ -207,7 +207,7 @@ pub fn poly_difference(
 }
 
 /// The first polynomial less the second, where it is defined.
-fn less_poly(alloc: Global, left: &Poly, right: &Poly) -> Result<Option<Poly>, Memory>
+pub(crate) fn less_poly(alloc: Global, left: &Poly, right: &Poly) -> Result<Option<Poly>, Memory>
     ensures { IfOk result (λ found. found ≡ less_poly left.now right.now) }
 {
     let once = Poly::number(alloc, -1)?;

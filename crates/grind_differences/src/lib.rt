@@ -6,13 +6,14 @@ pub mod bounds;
 pub mod differences;
 pub mod equations;
 pub mod laws;
+pub mod readers;
 
 pub use bounds::{
     has_opposite, have_same_parts, is_opposite_form, is_plus_one, is_same_form, is_within_cut,
 };
 pub use differences::{
-    are_apart_by_reading, is_difference, is_difference_or_more, is_difference_plus_one,
-    is_more_than_difference, is_number, is_poly_difference,
+    are_apart_by_reading, difference, is_difference, is_difference_or_more, is_difference_plus_one,
+    is_more_than_difference, is_number, is_poly_difference, poly_difference,
 };
 pub use equations::{form_of, is_multiple, is_other_than_zero, is_same_poly, multiplies_numbers};
 pub use laws::{
@@ -20,3 +21,4 @@ pub use laws::{
     multiples_have_their_values, opposites_have_their_values, poly_differences_have_their_values,
     poly_differences_stay,
 };
+pub use readers::{FormReader, PolyReader};

@@ -17,5 +17,5 @@ pub use laws::{
     readings_name_numbers, readings_stay, refusals_by_node, sums_by_node, sums_have_their_values,
     sums_name_numbers,
 };
-pub use reading::linear_of;
+pub use reading::{linear_of, linear_of_all};
 pub use sum::{add_scaled, scale};
