@@ -31,7 +31,7 @@ pub(crate) fn known_lines(
     count: usize,
 ) -> Result<List<u32>, Memory>
     requires ready { IsReady lemmas.now goal.now proof.old branch }
-    requires fits { Fits closure.now.lists proof.old.terms.nodes }
+    requires fits { Fits closure.now proof.old.terms.nodes }
     requires count { count ≤ length closure.now.edges }
     requires reasons { HasReasons proof.old branch closure.now.edges whys.now count }
     ensures appends { Appends lemmas.now goal.now proof.old proof.new branch }
@@ -72,7 +72,7 @@ fn line_of_edge(
     edge: &Edge,
 ) -> Result<u32, Memory>
     requires ready { IsReady lemmas.now goal.now proof.old branch }
-    requires fits { Fits closure.now.lists proof.old.terms.nodes }
+    requires fits { Fits closure.now proof.old.terms.nodes }
     requires known { AreKnown proof.old branch closure.now.edges known.now }
     requires left { IsActive closure.now.lists edge.now.left }
     requires right { IsActive closure.now.lists edge.now.right }
@@ -107,7 +107,7 @@ fn line_of_pair(
     right: NodeId,
 ) -> Result<u32, Memory>
     requires ready { IsReady lemmas.now goal.now proof.old branch }
-    requires fits { Fits closure.now.lists proof.old.terms.nodes }
+    requires fits { Fits closure.now proof.old.terms.nodes }
     requires left { IsActive closure.now.lists left }
     requires right { IsActive closure.now.lists right }
     requires known { AreKnown proof.old branch closure.now.edges known.now }
@@ -165,7 +165,7 @@ fn lines_of_args(
     rights: &[NodeId],
 ) -> Result<List<u32>, Memory>
     requires ready { IsReady lemmas.now goal.now proof.old branch }
-    requires fits { Fits closure.now.lists proof.old.terms.nodes }
+    requires fits { Fits closure.now proof.old.terms.nodes }
     requires known { AreKnown proof.old branch closure.now.edges known.now }
     requires left { All (IsActive closure.now.lists) lefts.now }
     requires right { All (IsActive closure.now.lists) rights.now }
@@ -202,7 +202,7 @@ fn line_of_arg(
     b: NodeId,
 ) -> Result<u32, Memory>
     requires ready { IsReady lemmas.now goal.now proof.old branch }
-    requires fits { Fits closure.now.lists proof.old.terms.nodes }
+    requires fits { Fits closure.now proof.old.terms.nodes }
     requires known { AreKnown proof.old branch closure.now.edges known.now }
     requires left { IsActive closure.now.lists a }
     requires right { IsActive closure.now.lists b }
