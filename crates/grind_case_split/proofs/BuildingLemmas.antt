@@ -150,7 +150,7 @@ AreFounded-more nodes given edges edge all one = λ place it stands. elim (place
 -- an equation between two classes makes one more edge
 pub one_more_edge : (nodes : List Node) (given : List Edge) (old new : Congruence) (a b why : ℕ) → IsBuilt nodes given old → a < length nodes →
     b < length nodes → (AreTogether old.lists a b → ⊥) → IsFounded nodes given old.edges (length old.edges) (record { left = a; right = b; why = why }) →
-    IsJoined old new a b why → Fits new.lists nodes → IsOneMore nodes given old new a b
+    IsJoined old new a b why → Fits new nodes → IsOneMore nodes given old new a b
 one_more_edge nodes given old new a b why built left right apart founded grown fits =
     let active_a = built.active a left in
     let active_b = built.active b right in
@@ -250,7 +250,7 @@ AreAsserted-stay given old new keeps h = record { each = λ edge has. record { e
 
 -- one node more is active
 pub IsActiveBelow-step : (nodes : List Node) (old new : Congruence) (n : ℕ) → IsActiveBelow nodes old n →
-    ((x : ℕ) → IsActive new.lists x ↔ (IsActive old.lists x ⊎ (x ≡ n))) → new.edges ≡ old.edges → Fits new.lists nodes →
+    ((x : ℕ) → IsActive new.lists x ↔ (IsActive old.lists x ⊎ (x ≡ n))) → new.edges ≡ old.edges → Fits new nodes →
     IsActiveBelow nodes new (n + 1)
 IsActiveBelow-step nodes old new n h active same fits = record {
   fits = fits;
@@ -269,3 +269,24 @@ pub IsClosure-from : (nodes : List Node) (given : List Edge) (old new : Congruen
     KeepsTogether old new → HasRest nodes new → IsClosure nodes given new
 IsClosure-from nodes given old new asserted built keeps rest =
     record { built = built; asserted = AreAsserted-stay given old new keeps asserted; rest = rest }
+
+-- a step leaves the classes and the edges
+pub IsBuilt-same : (nodes : List Node) (given : List Edge) (old new : Congruence) → IsBuilt nodes given old → new.lists ≡ old.lists →
+    new.edges ≡ old.edges → Fits new nodes → IsBuilt nodes given new
+IsBuilt-same nodes given old new built lists edges fits = record {
+  fits = fits;
+  active = λ n within. subst (λ (ls : List (List ℕ)). IsActive ls n) (sym lists) (built.active n within);
+  founded = subst (AreFounded nodes given) (sym edges) built.founded;
+}
+
+pub KeepsTogether-same : (old new : Congruence) → new.lists ≡ old.lists → KeepsTogether old new
+KeepsTogether-same old new lists = record { stays = λ a b t. subst (λ (ls : List (List ℕ)). AreTogether ls a b) (sym lists) t }
+
+-- and one more edge after it makes fewer classes
+pub IsStepped-more : (nodes : List Node) (given : List Edge) (old mid new : Congruence) (a b : ℕ) → mid.lists ≡ old.lists →
+    IsOneMore nodes given mid new a b → IsStepped nodes given old new true
+IsStepped-more nodes given old mid new a b lists more = (
+  more.built,
+  record { stays = λ x y t. more.keeps.stays x y (subst (λ (ls : List (List ℕ)). AreTogether ls x y) (sym lists) t) },
+  subst (λ (ls : List (List ℕ)). class_count new.lists < class_count ls) lists more.fewer,
+)

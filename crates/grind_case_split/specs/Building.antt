@@ -21,7 +21,7 @@ HasEnds nodes edge = (edge.left < length nodes) × (edge.right < length nodes)
 
 -- a closure over all nodes of a table, whose edges are given ones and congruences
 pub record IsBuilt (nodes : List Node) (given : List Edge) (closure : Congruence) : Type 0 where
-  pub fits : Fits closure.lists nodes
+  pub fits : Fits closure nodes
   pub active : (n : ℕ) → n < length nodes → IsActive closure.lists n
   pub founded : AreFounded nodes given closure.edges
 
@@ -58,11 +58,11 @@ pub record IsOneMore (nodes : List Node) (given : List Edge) (old new : Congruen
 abbrev pub IsStepped : List Node → List Edge → Congruence → Congruence → Bool → Type 0
 IsStepped nodes given old new true =
     IsBuilt nodes given new × KeepsTogether old new × (class_count new.lists < class_count old.lists)
-IsStepped nodes given old new false = (new ≡ old) × HasRest nodes new
+IsStepped nodes given old new false = IsBuilt nodes given new × KeepsTogether old new × HasRest nodes new
 
 -- what the activation of the first nodes keeps
 pub record IsActiveBelow (nodes : List Node) (closure : Congruence) (bound : ℕ) : Type 0 where
-  pub fits : Fits closure.lists nodes
+  pub fits : Fits closure nodes
   pub active : (n : ℕ) → n < bound → IsActive closure.lists n
   pub only : (n : ℕ) → IsActive closure.lists n → n < bound
   pub edges : closure.edges ≡ []

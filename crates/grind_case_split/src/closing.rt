@@ -88,7 +88,7 @@ pub(crate) fn refute(
     fact: &Fact,
 ) -> Result<(), Memory>
     requires rooted { IsRooted lemmas.now goal.now proof.old }
-    requires fits { Fits closure.now.lists goal.now.terms.nodes }
+    requires fits { Fits closure.now goal.now.terms.nodes }
     requires reasons { (count : ℕ) → HasReasons proof.old 0 closure.now.edges whys.now count }
     requires refuted { IsRefuted goal.now closure.now fact.now }
     ensures { OnOk result (IsProofOf lemmas.now goal.now proof.new) }

@@ -43,7 +43,7 @@ pub fn equations_of(alloc: Global, lemmas: &Lemmas, goal: &Goal) -> Result<Equat
     ensures closure { IfOk result (λ it. IsClosure goal.now.terms.nodes it.given it.closure) }
 
     ensures active { IfOk result (λ it. (n : ℕ) → n < length goal.now.terms.nodes → IsActive it.closure.lists n) }
-    ensures fits { IfOk result (λ it. Fits it.closure.lists it.proof.terms.nodes) }
+    ensures fits { IfOk result (λ it. Fits it.closure it.proof.terms.nodes) }
     ensures ready { IfOk result (λ it. IsReady lemmas.now goal.now it.proof 0) }
     ensures reasons { IfOk result (λ it. (count : ℕ) → HasReasons it.proof 0 it.closure.edges it.whys count) }
 {

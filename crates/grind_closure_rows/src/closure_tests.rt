@@ -75,8 +75,8 @@ fn activated(
     terms: &TermTable,
     n: NodeId,
 ) -> Result<(), Memory>
-    requires { Fits closure.old.lists terms.now.nodes }
-    ensures { Fits closure.new.lists terms.now.nodes }
+    requires { Fits closure.old terms.now.nodes }
+    ensures { Fits closure.new terms.now.nodes }
 {
     if n.number() >= terms.len() || closure.classes().is_active(n) {
         return Ok(());
@@ -89,7 +89,7 @@ fn activated(
 
 // A closure in which all nodes of a table are active.
 fn all_active(alloc: Global, terms: &TermTable) -> Result<Closure, Memory>
-    ensures { IfOk result (λ closure. Fits closure.lists terms.now.nodes) }
+    ensures { IfOk result (λ closure. Fits closure terms.now.nodes) }
 {
     let mut closure = Closure::new(alloc);
     for number in 0..terms.len() {
@@ -107,8 +107,8 @@ fn asserted(
     b: NodeId,
     why: u32,
 ) -> Result<(), Memory>
-    requires { Fits closure.old.lists terms.now.nodes }
-    ensures { Fits closure.new.lists terms.now.nodes }
+    requires { Fits closure.old terms.now.nodes }
+    ensures { Fits closure.new terms.now.nodes }
 {
     if !closure.classes().is_active(a) || !closure.classes().is_active(b) {
         return Ok(());
@@ -118,8 +118,8 @@ fn asserted(
 
 // Says what steps find, until they find nothing.
 fn settled(alloc: Global, closure: &mut Closure, terms: &TermTable) -> Result<(), Memory>
-    requires { Fits closure.old.lists terms.now.nodes }
-    ensures { Fits closure.new.lists terms.now.nodes }
+    requires { Fits closure.old terms.now.nodes }
+    ensures { Fits closure.new terms.now.nodes }
 {
     for _ in 0..terms.len() {
         let found = closure.step(alloc, terms)?;

@@ -6,3 +6,6 @@ pub mod MarkLemmas
 pub mod ForestLemmas
 pub mod LegLemmas
 pub mod TableLemmas
+pub mod UsesLemmas
+pub mod AgendaLemmas
+pub mod ClosureLemmas

@@ -1,21 +1,27 @@
 -- Marks as a closure grows and goes back.
-use Rattle.std.specs.Prelude.{◌≡◌, ℕ, zero, suc, ◌<◌, ◌≤◌, List, [], ◌∷◌, ◌++◌, Some, length, take, slice_get, refl}
+use Rattle.std.specs.Prelude.{◌≡◌, ℕ, zero, suc, ◌<◌, ◌≤◌, List, [], ◌∷◌, ◌++◌, Some, length, map, take, slice_get, refl}
 use Rattle.std.proofs.Common.{arith, sym, ap, ◌∙◌, subst, get_or}
 use Rattle.std.proofs.lemmas.Option.{same_Some}
-use Rattle.std.proofs.lemmas.List.{length-append, take-append-le, take-take}
+use Rattle.std.proofs.lemmas.List.{length-take-le, length-append}
 use Rattle.grind_classes.specs.Classes.{Grouping}
 use Rattle.grind_congruence.specs.declared.edge.Edge.{Edge}
 use Rattle.grind_congruence.specs.declared.view.ClosureView.{ClosureView}
 use Rattle.grind_congruence.specs.declared.view.Noted.{Noted}
-use Rattle.grind_congruence.specs.Edges.{AreClassesOf}
-use Rattle.grind_congruence.specs.Marks.{IsBefore, AreBefore, AreAfter, AreInOrder, noted_now, view_at, views, AreSound, IsKept}
+use Rattle.grind_congruence.specs.Table.{IsLonger, AgendaData}
+use Rattle.grind_congruence.specs.Marks.{IsBefore, AreBefore, AreAfter, AreInOrder, noted_now, cut, State, view_of, state_at, states, views, IsWhole, AreWhole, IsGrown, IsKept}
+use Rattle.grind_congruence.proofs.TableLemmas.{longer_itself, longer_length, longer_take}
 
 -- before is transitive
 through : (a b d : Noted) → IsBefore a b → IsBefore b d → IsBefore a d
-through a b d first second = omega (arith, first, second)
+through a b d first second = record {
+  edges = omega (arith, first.edges, second.edges);
+  keys = omega (arith, first.keys, second.keys);
+  applications = omega (arith, first.applications, second.applications);
+  work = omega (arith, first.work, second.work);
+}
 
 itself : (a : Noted) → IsBefore a a
-itself a = omega arith
+itself a = record { edges = omega arith; keys = omega arith; applications = omega arith; work = omega arith }
 
 pub AreBefore-more : (marks : List Noted) (top more : Noted) → IsBefore top more → AreBefore marks top → AreBefore marks more
 AreBefore-more [] top more order before = tt
@@ -62,110 +68,161 @@ before_at [] top k mark stands before = absurd cc
 before_at (noted ∷ marks) top zero mark stands before = subst (λ m. IsBefore m top) (same_Some noted mark stands) before.0
 before_at (noted ∷ marks) top (suc k) mark stands before = before_at marks top k mark stands before.1
 
--- what is noted of edges that more stand behind
-pub views-more : (marked : List (List (List ℕ))) (edges more : List Edge) (marks : List Noted) → AreBefore marks (noted_now edges)
-    → views marked (edges ++ more) marks ≡ views marked edges marks
-views-more [] edges more marks before = refl
-views-more (lists ∷ marked) edges more [] before = refl
-views-more (lists ∷ marked) edges more (noted ∷ marks) before =
-    ap (λ es. record { lists = lists; edges = es } ∷ views marked (edges ++ more) marks) (take-append-le noted.edges edges more before.0)
-    ∙ ap (λ vs. view_at lists edges noted ∷ vs) (views-more marked edges more marks before.1)
-
--- and of the first edges
-pub views-less : (marked : List (List (List ℕ))) (edges : List Edge) (mark : Noted) (marks : List Noted) → AreBefore marks mark
-    → views marked (take mark.edges edges) marks ≡ views marked edges marks
-views-less [] edges mark marks before = refl
-views-less (lists ∷ marked) edges mark [] before = refl
-views-less (lists ∷ marked) edges mark (noted ∷ marks) before =
-    ap (λ es. record { lists = lists; edges = es } ∷ views marked (take mark.edges edges) marks) (take-take noted.edges mark.edges edges before.0)
-    ∙ ap (λ vs. view_at lists edges noted ∷ vs) (views-less marked edges mark marks before.1)
-
-take_whole : {A : Type 0} (xs : List A) → take (length xs) xs ≡ xs
-take_whole [] = refl
-take_whole (x ∷ xs) = ap (λ ys. x ∷ ys) (take_whole xs)
-
--- one more mark
-pub views-mark : (marked : List (List (List ℕ))) (edges : List Edge) (marks : List Noted) (lists : List (List ℕ))
-    → length marked ≡ length marks
-    → views (marked ++ lists ∷ []) edges (marks ++ noted_now edges ∷ []) ≡ views marked edges marks ++ record { lists = lists; edges = edges } ∷ []
-views-mark [] edges [] lists count = ap (λ es. record { lists = lists; edges = es } ∷ []) (take_whole edges)
-views-mark [] edges (noted ∷ marks) lists count = absurd (omega (arith, count))
-views-mark (first ∷ marked) edges [] lists count = absurd (omega (arith, count))
-views-mark (first ∷ marked) edges (noted ∷ marks) lists count =
-    ap (λ vs. view_at first edges noted ∷ vs) (views-mark marked edges marks lists (omega (arith, count)))
-
--- the marks before one
-pub views-take : (marked : List (List (List ℕ))) (edges : List Edge) (marks : List Noted) (k : ℕ)
-    → views (take k marked) edges (take k marks) ≡ take k (views marked edges marks)
-views-take marked edges marks zero = refl
-views-take [] edges marks (suc k) = refl
-views-take (lists ∷ marked) edges [] (suc k) = refl
-views-take (lists ∷ marked) edges (noted ∷ marks) (suc k) = ap (λ vs. view_at lists edges noted ∷ vs) (views-take marked edges marks k)
-
--- and one of them
-pub views-at : (marked : List (List (List ℕ))) (edges : List Edge) (marks : List Noted) (k : ℕ) (lists : List (List ℕ)) (mark : Noted)
-    → slice_get marked k ≡ Some lists → slice_get marks k ≡ Some mark
-    → slice_get (views marked edges marks) k ≡ Some (view_at lists edges mark)
-views-at [] edges marks k lists mark here there = absurd cc
-views-at (first ∷ marked) edges [] k lists mark here there = absurd cc
-views-at (first ∷ marked) edges (noted ∷ marks) zero lists mark here there =
-    ap (λ ls. Some (view_at ls edges noted)) (same_Some first lists here) ∙ ap (λ m. Some (view_at lists edges m)) (same_Some noted mark there)
-views-at (first ∷ marked) edges (noted ∷ marks) (suc k) lists mark here there = views-at marked edges marks k lists mark here there
-
-pub views-length : (marked : List (List (List ℕ))) (edges : List Edge) (marks : List Noted) → length marked ≡ length marks
-    → length (views marked edges marks) ≡ length marks
-views-length [] edges [] count = refl
-views-length [] edges (noted ∷ marks) count = absurd (omega (arith, count))
-views-length (lists ∷ marked) edges [] count = absurd (omega (arith, count))
-views-length (lists ∷ marked) edges (noted ∷ marks) count = ap suc (views-length marked edges marks (omega (arith, count)))
-
-AreSound-push : (views : List ClosureView) (view : ClosureView) → AreSound views → AreClassesOf view.lists view.edges → AreSound (views ++ view ∷ [])
-AreSound-push [] view sound here = (here, tt)
-AreSound-push (first ∷ views) view sound here = (sound.0, AreSound-push views view sound.1 here)
-
-AreSound-take : (views : List ClosureView) (k : ℕ) → AreSound views → AreSound (take k views)
-AreSound-take views zero sound = tt
-AreSound-take [] (suc k) sound = tt
-AreSound-take (view ∷ views) (suc k) sound = (sound.0, AreSound-take views k sound.1)
-
-AreSound-at : (views : List ClosureView) (k : ℕ) (view : ClosureView) → slice_get views k ≡ Some view → AreSound views
-    → AreClassesOf view.lists view.edges
-AreSound-at [] k view stands sound = absurd cc
-AreSound-at (first ∷ views) zero view stands sound =
-    subst (λ (v : ClosureView). AreClassesOf v.lists v.edges) (same_Some first view stands) sound.0
-AreSound-at (first ∷ views) (suc k) view stands sound = AreSound-at views k view stands sound.1
-
--- what is kept where classes change, and edges may come behind the others
-pub IsKept-change : (old new : Grouping) (edges more : List Edge) (marks : List Noted) → IsKept old edges marks
-    → new.marked ≡ old.marked → AreClassesOf new.lists (edges ++ more) → IsKept new (edges ++ more) marks
-IsKept-change old new edges more marks kept same classes = record {
-  classes = classes;
-  count = ap (λ (vs : List (List (List ℕ))). length vs) same ∙ kept.count;
-  within = AreBefore-more marks (noted_now edges) (noted_now (edges ++ more)) (omega (arith, length-append edges more)) kept.within;
-  order = kept.order;
-  sound = rw (same, views-more old.marked edges more marks kept.within) kept.sound;
+-- what grew has at least as much of everything
+pub noted_later : (edges more : List Edge) (agenda later : AgendaData) → IsGrown edges agenda more later
+    → IsBefore (noted_now edges agenda) (noted_now more later)
+noted_later edges more agenda later grown = record {
+  edges = longer_length edges more grown.edges_grow;
+  keys = longer_length agenda.table later.table grown.table;
+  applications = longer_length agenda.applications later.applications grown.applications;
+  work = longer_length agenda.work later.work grown.work;
 }
 
-pub IsKept-classes : (old new : Grouping) (edges : List Edge) (marks : List Noted) → IsKept old edges marks
-    → new.marked ≡ old.marked → AreClassesOf new.lists edges → IsKept new edges marks
-IsKept-classes old new edges marks kept same classes = record {
-  classes = classes;
+-- what was noted of what grew since
+pub state_at-grown : (lists : List (List ℕ)) (edges more : List Edge) (agenda later : AgendaData) (noted : Noted) → IsGrown edges agenda more later
+    → IsBefore noted (noted_now edges agenda) → state_at lists more later noted ≡ state_at lists edges agenda noted
+state_at-grown lists edges more agenda later noted grown before =
+    let es = longer_take edges more noted.edges before.edges grown.edges_grow in
+    let ks = longer_take agenda.table later.table noted.keys before.keys grown.table in
+    let its = longer_take agenda.applications later.applications noted.applications before.applications grown.applications in
+    let ws = longer_take agenda.work later.work noted.work before.work grown.work in
+    λ i. record {
+      lists = lists;
+      edges = es i;
+      agenda = record { table = ks i; applications = its i; work = ws i; cursor = noted.cursor };
+    }
+
+pub states-grown : (marked : List (List (List ℕ))) (edges more : List Edge) (agenda later : AgendaData) (marks : List Noted)
+    → IsGrown edges agenda more later → AreBefore marks (noted_now edges agenda)
+    → states marked more later marks ≡ states marked edges agenda marks
+states-grown [] edges more agenda later marks grown before = refl
+states-grown (lists ∷ marked) edges more agenda later [] grown before = refl
+states-grown (lists ∷ marked) edges more agenda later (noted ∷ marks) grown before =
+    ap (λ (it : State). it ∷ states marked more later marks) (state_at-grown lists edges more agenda later noted grown before.0)
+    ∙ ap (λ (its : List State). state_at lists edges agenda noted ∷ its) (states-grown marked edges more agenda later marks grown before.1)
+
+pub views-grown : (marked : List (List (List ℕ))) (edges more : List Edge) (agenda later : AgendaData) (marks : List Noted)
+    → IsGrown edges agenda more later → AreBefore marks (noted_now edges agenda)
+    → views marked more later marks ≡ views marked edges agenda marks
+views-grown marked edges more agenda later marks grown before = ap (map view_of) (states-grown marked edges more agenda later marks grown before)
+
+-- what grows by nothing
+pub grown_itself : (edges : List Edge) (agenda : AgendaData) → IsGrown edges agenda edges agenda
+grown_itself edges agenda = record {
+  edges_grow = longer_itself edges;
+  table = longer_itself agenda.table;
+  applications = longer_itself agenda.applications;
+  work = longer_itself agenda.work;
+}
+
+-- what is whole is what it was when nothing was taken away
+whole_now : (lists : List (List ℕ)) (edges : List Edge) (agenda : AgendaData)
+    → state_at lists edges agenda (noted_now edges agenda) ≡ record { lists = lists; edges = edges; agenda = agenda }
+whole_now lists edges agenda =
+    let es = longer_itself edges in
+    let ks = longer_itself agenda.table in
+    let its = longer_itself agenda.applications in
+    let ws = longer_itself agenda.work in
+    λ i. record { lists = lists; edges = es i; agenda = record { table = ks i; applications = its i; work = ws i; cursor = agenda.cursor } }
+
+-- one more mark
+pub states-mark : (marked : List (List (List ℕ))) (edges : List Edge) (agenda : AgendaData) (marks : List Noted) (lists : List (List ℕ))
+    → length marked ≡ length marks
+    → states (marked ++ lists ∷ []) edges agenda (marks ++ noted_now edges agenda ∷ [])
+    ≡ states marked edges agenda marks ++ record { lists = lists; edges = edges; agenda = agenda } ∷ []
+states-mark [] edges agenda [] lists count = ap (λ (it : State). it ∷ []) (whole_now lists edges agenda)
+states-mark [] edges agenda (noted ∷ marks) lists count = absurd (omega (arith, count))
+states-mark (first ∷ marked) edges agenda [] lists count = absurd (omega (arith, count))
+states-mark (first ∷ marked) edges agenda (noted ∷ marks) lists count =
+    ap (λ (its : List State). state_at first edges agenda noted ∷ its) (states-mark marked edges agenda marks lists (omega (arith, count)))
+
+map_push : (its : List State) (it : State) → map view_of (its ++ it ∷ []) ≡ map view_of its ++ view_of it ∷ []
+map_push [] it = refl
+map_push (first ∷ its) it = ap (λ (vs : List ClosureView). view_of first ∷ vs) (map_push its it)
+
+pub views-mark : (marked : List (List (List ℕ))) (edges : List Edge) (agenda : AgendaData) (marks : List Noted) (lists : List (List ℕ))
+    → length marked ≡ length marks
+    → views (marked ++ lists ∷ []) edges agenda (marks ++ noted_now edges agenda ∷ [])
+    ≡ views marked edges agenda marks ++ view_of (record { lists = lists; edges = edges; agenda = agenda }) ∷ []
+views-mark marked edges agenda marks lists count =
+    ap (map view_of) (states-mark marked edges agenda marks lists count)
+    ∙ map_push (states marked edges agenda marks) (record { lists = lists; edges = edges; agenda = agenda })
+
+-- the marks before one
+pub states-take : (marked : List (List (List ℕ))) (edges : List Edge) (agenda : AgendaData) (marks : List Noted) (k : ℕ)
+    → states (take k marked) edges agenda (take k marks) ≡ take k (states marked edges agenda marks)
+states-take marked edges agenda marks zero = refl
+states-take [] edges agenda marks (suc k) = refl
+states-take (lists ∷ marked) edges agenda [] (suc k) = refl
+states-take (lists ∷ marked) edges agenda (noted ∷ marks) (suc k) =
+    ap (λ (its : List State). state_at lists edges agenda noted ∷ its) (states-take marked edges agenda marks k)
+
+map_take : (its : List State) (k : ℕ) → map view_of (take k its) ≡ take k (map view_of its)
+map_take its zero = refl
+map_take [] (suc k) = refl
+map_take (first ∷ its) (suc k) = ap (λ (vs : List ClosureView). view_of first ∷ vs) (map_take its k)
+
+-- and one of them
+pub states-at : (marked : List (List (List ℕ))) (edges : List Edge) (agenda : AgendaData) (marks : List Noted) (k : ℕ) (lists : List (List ℕ))
+    (mark : Noted) → slice_get marked k ≡ Some lists → slice_get marks k ≡ Some mark
+    → slice_get (states marked edges agenda marks) k ≡ Some (state_at lists edges agenda mark)
+states-at [] edges agenda marks k lists mark here there = absurd cc
+states-at (first ∷ marked) edges agenda [] k lists mark here there = absurd cc
+states-at (first ∷ marked) edges agenda (noted ∷ marks) zero lists mark here there =
+    ap (λ (ls : List (List ℕ)). Some (state_at ls edges agenda noted)) (same_Some first lists here)
+    ∙ ap (λ (m : Noted). Some (state_at lists edges agenda m)) (same_Some noted mark there)
+states-at (first ∷ marked) edges agenda (noted ∷ marks) (suc k) lists mark here there = states-at marked edges agenda marks k lists mark here there
+
+map_at : (its : List State) (k : ℕ) (it : State) → slice_get its k ≡ Some it → slice_get (map view_of its) k ≡ Some (view_of it)
+map_at [] k it stands = absurd cc
+map_at (first ∷ its) zero it stands = ap (λ (s : State). Some (view_of s)) (same_Some first it stands)
+map_at (first ∷ its) (suc k) it stands = map_at its k it stands
+
+pub views-length : (marked : List (List (List ℕ))) (edges : List Edge) (agenda : AgendaData) (marks : List Noted) → length marked ≡ length marks
+    → length (views marked edges agenda marks) ≡ length marks
+views-length [] edges agenda [] count = refl
+views-length [] edges agenda (noted ∷ marks) count = absurd (omega (arith, count))
+views-length (lists ∷ marked) edges agenda [] count = absurd (omega (arith, count))
+views-length (lists ∷ marked) edges agenda (noted ∷ marks) count = ap suc (views-length marked edges agenda marks (omega (arith, count)))
+
+AreWhole-push : (its : List State) (it : State) → AreWhole its → IsWhole it → AreWhole (its ++ it ∷ [])
+AreWhole-push [] it whole here = (here, tt)
+AreWhole-push (first ∷ its) it whole here = (whole.0, AreWhole-push its it whole.1 here)
+
+AreWhole-take : (its : List State) (k : ℕ) → AreWhole its → AreWhole (take k its)
+AreWhole-take its zero whole = tt
+AreWhole-take [] (suc k) whole = tt
+AreWhole-take (first ∷ its) (suc k) whole = (whole.0, AreWhole-take its k whole.1)
+
+AreWhole-at : (its : List State) (k : ℕ) (it : State) → slice_get its k ≡ Some it → AreWhole its → IsWhole it
+AreWhole-at [] k it stands whole = absurd cc
+AreWhole-at (first ∷ its) zero it stands whole = subst IsWhole (same_Some first it stands) whole.0
+AreWhole-at (first ∷ its) (suc k) it stands whole = AreWhole-at its k it stands whole.1
+
+-- what is kept where classes change, and edges and the agenda may grow
+pub IsKept-grown : (old new : Grouping) (edges more : List Edge) (agenda later : AgendaData) (marks : List Noted) → IsKept old edges agenda marks
+    → new.marked ≡ old.marked → IsGrown edges agenda more later → IsWhole (record { lists = new.lists; edges = more; agenda = later })
+    → IsKept new more later marks
+IsKept-grown old new edges more agenda later marks kept same grown whole = record {
+  present = whole;
   count = ap (λ (vs : List (List (List ℕ))). length vs) same ∙ kept.count;
-  within = kept.within;
+  before = AreBefore-more marks (noted_now edges agenda) (noted_now more later) (noted_later edges more agenda later grown) kept.before;
   order = kept.order;
-  sound = rw same kept.sound;
+  whole = subst AreWhole (sym (states-grown old.marked edges more agenda later marks grown kept.before)
+      ∙ ap (λ (vs : List (List (List ℕ))). states vs more later marks) (sym same)) kept.whole;
 }
 
 -- and where a mark is set
-pub IsKept-mark : (old new : Grouping) (edges : List Edge) (marks : List Noted) → IsKept old edges marks
-    → new.marked ≡ old.marked ++ old.lists ∷ [] → new.lists ≡ old.lists → IsKept new edges (marks ++ noted_now edges ∷ [])
-IsKept-mark old new edges marks kept marked lists = record {
-  classes = rw lists kept.classes;
-  count = omega (arith, ap (λ (vs : List (List (List ℕ))). length vs) marked, length-append old.marked (old.lists ∷ []), length-append marks (noted_now edges ∷ []), kept.count);
-  within = AreBefore-push marks (noted_now edges) kept.within;
-  order = AreInOrder-push marks (noted_now edges) kept.order kept.within;
-  sound = rw (marked, views-mark old.marked edges marks old.lists kept.count)
-      (AreSound-push (views old.marked edges marks) (record { lists = old.lists; edges = edges }) kept.sound kept.classes);
+pub IsKept-mark : (old new : Grouping) (edges : List Edge) (agenda : AgendaData) (marks : List Noted) → IsKept old edges agenda marks
+    → new.marked ≡ old.marked ++ old.lists ∷ [] → new.lists ≡ old.lists → IsKept new edges agenda (marks ++ noted_now edges agenda ∷ [])
+IsKept-mark old new edges agenda marks kept marked lists = record {
+  present = subst (λ (ls : List (List ℕ)). IsWhole (record { lists = ls; edges = edges; agenda = agenda })) (sym lists) kept.present;
+  count = omega (arith, ap (λ (vs : List (List (List ℕ))). length vs) marked, length-append old.marked (old.lists ∷ []), length-append marks (noted_now edges agenda ∷ []), kept.count);
+  before = AreBefore-push marks (noted_now edges agenda) kept.before;
+  order = AreInOrder-push marks (noted_now edges agenda) kept.order kept.before;
+  whole = subst AreWhole (sym (states-mark old.marked edges agenda marks old.lists kept.count)
+      ∙ ap (λ (vs : List (List (List ℕ))). states vs edges agenda (marks ++ noted_now edges agenda ∷ [])) (sym marked))
+      (AreWhole-push (states old.marked edges agenda marks) (record { lists = old.lists; edges = edges; agenda = agenda }) kept.whole kept.present);
 }
 
 -- what a mark in force stands for
@@ -174,42 +231,74 @@ get_stands [] k d within = absurd (omega (arith, within))
 get_stands (x ∷ xs) zero d within = refl
 get_stands (x ∷ xs) (suc k) d within = get_stands xs k d (omega (arith, within))
 
-length_take : {A : Type 0} (n : ℕ) (xs : List A) → n ≤ length xs → length (take n xs) ≡ n
-length_take zero xs within = refl
-length_take (suc n) [] within = absurd (omega (arith, within))
-length_take (suc n) (x ∷ xs) within = ap suc (length_take n xs (omega (arith, within)))
+in_range : {A : Type 0} (xs : List A) (i : ℕ) (x : A) → slice_get xs i ≡ Some x → i < length xs
+in_range [] i x e = absurd cc
+in_range (y ∷ xs) zero x e = omega arith
+in_range (y ∷ xs) (suc i) x e = let h = in_range xs i x e in omega (arith, h)
 
--- what is kept after undo
-pub IsKept-undo : (old new : Grouping) (edges : List Edge) (marks : List Noted) (k : ℕ) (mark : Noted) → IsKept old edges marks
-    → slice_get marks k ≡ Some mark → slice_get old.marked k ≡ Some new.lists → new.marked ≡ take k old.marked
-    → IsKept new (take mark.edges edges) (take k marks)
-IsKept-undo old new edges marks k mark kept stands lists marked =
-    let before : AreBefore (take k marks) mark = AreBefore-take marks k mark stands kept.order in
-    let within : mark.edges ≤ length edges = before_at marks (noted_now edges) k mark stands kept.within in
-    let count : length (take mark.edges edges) ≡ mark.edges = length_take mark.edges edges within in
-    let inside : k < length marks = in_range marks k mark stands in
-    record {
-      classes = AreSound-at (views old.marked edges marks) k (view_at new.lists edges mark)
-          (views-at old.marked edges marks k new.lists mark lists stands) kept.sound;
-      count = rw marked (length_take k old.marked (omega (arith, inside, kept.count)) ∙ sym (length_take k marks (omega (arith, inside))));
-      within = AreBefore-more (take k marks) mark (noted_now (take mark.edges edges)) (omega (arith, count)) before;
-      order = AreInOrder-take marks k kept.order;
-      sound = rw (marked, views-less (take k old.marked) edges mark (take k marks) before, views-take old.marked edges marks k)
-          (AreSound-take (views old.marked edges marks) k kept.sound);
-    }
-  where
-    in_range : {A : Type 0} (xs : List A) (i : ℕ) (x : A) → slice_get xs i ≡ Some x → i < length xs
-    in_range [] i x e = absurd cc
-    in_range (y ∷ xs) zero x e = omega arith
-    in_range (y ∷ xs) (suc i) x e = let h = in_range xs i x e in omega (arith, h)
+-- a list begins with its first items
+longer_first : {A : Type 0} (xs : List A) (n : ℕ) → n ≤ length xs → IsLonger (take n xs) xs
+longer_first xs n within = ap (λ k. take k xs) (length-take-le n xs within)
 
--- the views that are left after undo, and the one that is given back
-pub undone_views : (old new : Grouping) (edges : List Edge) (marks : List Noted) (k : ℕ) (mark : Noted) → IsKept old edges marks
-    → slice_get marks k ≡ Some mark → slice_get old.marked k ≡ Some new.lists → new.marked ≡ take k old.marked
-    → (slice_get (views old.marked edges marks) k ≡ Some (record { lists = new.lists; edges = take mark.edges edges }))
-    × (views new.marked (take mark.edges edges) (take k marks) ≡ take k (views old.marked edges marks))
-undone_views old new edges marks k mark kept stands lists marked = (
-  views-at old.marked edges marks k new.lists mark lists stands,
-  rw (marked, views-less (take k old.marked) edges mark (take k marks) (AreBefore-take marks k mark stands kept.order))
-      (views-take old.marked edges marks k),
-)
+-- what there was at a mark grew since
+grown_since : (edges : List Edge) (agenda : AgendaData) (mark : Noted) → IsBefore mark (noted_now edges agenda)
+    → IsGrown (take mark.edges edges) (cut mark agenda) edges agenda
+grown_since edges agenda mark before = record {
+  edges_grow = longer_first edges mark.edges before.edges;
+  table = longer_first agenda.table mark.keys before.keys;
+  applications = longer_first agenda.applications mark.applications before.applications;
+  work = longer_first agenda.work mark.work before.work;
+}
+
+-- and it had as much as the mark noted
+noted_then : (edges : List Edge) (agenda : AgendaData) (mark : Noted) → IsBefore mark (noted_now edges agenda)
+    → IsBefore mark (noted_now (take mark.edges edges) (cut mark agenda))
+noted_then edges agenda mark before = record {
+  edges = omega (arith, length-take-le mark.edges edges before.edges);
+  keys = omega (arith, length-take-le mark.keys agenda.table before.keys);
+  applications = omega (arith, length-take-le mark.applications agenda.applications before.applications);
+  work = omega (arith, length-take-le mark.work agenda.work before.work);
+}
+
+-- the marks before the one that is undone
+module _ (old new : Grouping) (edges : List Edge) (agenda : AgendaData) (marks : List Noted) (k : ℕ) (mark : Noted)
+    (kept : IsKept old edges agenda marks) (stands : slice_get marks k ≡ Some mark) (lists : slice_get old.marked k ≡ Some new.lists)
+    (marked : new.marked ≡ take k old.marked) where
+  abbrev inside_now : IsBefore mark (noted_now edges agenda)
+  inside_now = before_at marks (noted_now edges agenda) k mark stands kept.before
+
+  abbrev earlier : AreBefore (take k marks) (noted_now (take mark.edges edges) (cut mark agenda))
+  earlier =
+      AreBefore-more (take k marks) mark (noted_now (take mark.edges edges) (cut mark agenda)) (noted_then edges agenda mark inside_now)
+      (AreBefore-take marks k mark stands kept.order)
+
+  abbrev states_left : states new.marked (take mark.edges edges) (cut mark agenda) (take k marks) ≡ take k (states old.marked edges agenda marks)
+  states_left =
+      ap (λ (vs : List (List (List ℕ))). states vs (take mark.edges edges) (cut mark agenda) (take k marks)) marked
+      ∙ sym (states-grown (take k old.marked) (take mark.edges edges) edges (cut mark agenda) agenda (take k marks) (grown_since edges agenda mark inside_now) earlier)
+      ∙ states-take old.marked edges agenda marks k
+
+  abbrev state_is : slice_get (states old.marked edges agenda marks) k ≡ Some (state_at new.lists edges agenda mark)
+  state_is = states-at old.marked edges agenda marks k new.lists mark lists stands
+
+  -- what is kept after undo
+  pub IsKept-undo : IsKept new (take mark.edges edges) (cut mark agenda) (take k marks)
+  IsKept-undo =
+      let inside : k < length marks = in_range marks k mark stands in
+      let less : k ≤ length marks = omega (arith, inside) in
+      let less_marked : k ≤ length old.marked = omega (arith, inside, kept.count) in
+      record {
+        present = AreWhole-at (states old.marked edges agenda marks) k (state_at new.lists edges agenda mark) state_is kept.whole;
+        count = ap (λ (vs : List (List (List ℕ))). length vs) marked ∙ length-take-le k old.marked less_marked ∙ sym (length-take-le k marks less);
+        before = earlier;
+        order = AreInOrder-take marks k kept.order;
+        whole = subst AreWhole (sym states_left) (AreWhole-take (states old.marked edges agenda marks) k kept.whole);
+      }
+
+  -- the views that are left after undo, and the one that is given back
+  pub undone_views : (slice_get (views old.marked edges agenda marks) k ≡ Some (view_of (state_at new.lists edges agenda mark)))
+      × (views new.marked (take mark.edges edges) (cut mark agenda) (take k marks) ≡ take k (views old.marked edges agenda marks))
+  undone_views = (
+    map_at (states old.marked edges agenda marks) k (state_at new.lists edges agenda mark) state_is,
+    ap (map view_of) states_left ∙ map_take (states old.marked edges agenda marks) k,
+  )

@@ -4,8 +4,8 @@ use Rattle.std.proofs.Common.{arith, sym, ◌∙◌, subst, inl, inr}
 use Rattle.std.proofs.lemmas.Bool.{cases_eq}
 use Rattle.grind_term_graph.specs.declared.node.Node.{Node}
 use Rattle.grind_classes.specs.Classes.{IsIn, IsActive, AreTogether, IsPartition}
-use Rattle.grind_congruence.specs.Congruence.{Fits, IsAtRest}
-use Rattle.grind_congruence.specs.Searching.{IsPair, HasNoPartner}
+use Rattle.grind_congruence.specs.Congruence.{IsAtRest}
+use Rattle.grind_congruence.specs.Searching.{AreNodesOf, IsPair, HasNoPartner}
 
 -- two active nodes are together, or they are not
 pub cases_together : (lists : List (List ℕ)) (a b : ℕ) → IsPartition lists → IsActive lists a → IsActive lists b
@@ -23,13 +23,13 @@ below_next P i before here k below = elim (cases_eq k i) [
 ]
 
 -- where no node of the table makes a pair with a node, no node does
-pub no_partner : (lists : List (List ℕ)) (nodes : List Node) (a n : ℕ) → Fits lists nodes → n ≡ length nodes
+pub no_partner : (lists : List (List ℕ)) (nodes : List Node) (a n : ℕ) → AreNodesOf lists nodes → n ≡ length nodes
     → ((b : ℕ) → b < n → IsPair lists nodes a b → ⊥) → HasNoPartner lists nodes a
 no_partner lists nodes a n fits count none b pair =
     let below = fits.within b pair.1 in none b (omega arith) pair
 
 -- where no node of the table has a partner, the classes are at rest
-pub rest_of_none : (lists : List (List ℕ)) (nodes : List Node) (n : ℕ) → IsPartition lists → Fits lists nodes → n ≡ length nodes
+pub rest_of_none : (lists : List (List ℕ)) (nodes : List Node) (n : ℕ) → IsPartition lists → AreNodesOf lists nodes → n ≡ length nodes
     → ((a : ℕ) → a < n → HasNoPartner lists nodes a) → IsAtRest lists nodes
 rest_of_none lists nodes n classes fits count none a b act_a act_b congruent =
     elim (cases_together lists a b classes act_a act_b) [

@@ -1,7 +1,8 @@
--- What an equation between two classes changes.
-use Rattle.std.specs.Prelude.{◌≡◌, ℕ, [], ◌∷◌, ◌++◌, ◌↔◌}
+-- What an equation between two classes changes, and what a node that becomes active does.
+use Rattle.std.specs.Prelude.{◌≡◌, ℕ, List, [], ◌∷◌, ◌++◌, Some, slice_get, ◌↔◌}
+use Rattle.grind_term_graph.specs.declared.node.Node.{Node}
 use Rattle.grind_classes.specs.Classes.{IsIn, IsActive, IsMerge, AreMergedAt}
-use Rattle.grind_congruence.specs.Congruence.{Congruence}
+use Rattle.grind_congruence.specs.Congruence.{Congruence, application_of}
 
 -- the classes of a and b are one, and the edge between them is kept behind the others
 pub record IsJoined (old new : Congruence) (a b why : ℕ) : Type 0 where
@@ -14,3 +15,12 @@ pub record IsJoined (old new : Congruence) (a b why : ℕ) : Type 0 where
   pub active : (x : ℕ) → IsActive new.lists x ↔ IsActive old.lists x
   -- the edge has the nodes in this order
   pub edges : new.edges ≡ old.edges ++ record { left = a; right = b; why = why } ∷ []
+  -- the table is the same, and so are the nodes with arguments
+  pub table : new.table ≡ old.table
+  pub applications : new.applications ≡ old.applications
+
+-- node n goes last among the active nodes with arguments, where it has any
+pub record IsActivated (old new : Congruence) (nodes : List Node) (n : ℕ) : Type 0 where
+  pub plain : (node : Node) → slice_get nodes n ≡ Some node → node.args ≡ [] → new.applications ≡ old.applications
+  pub applied : (node : Node) → slice_get nodes n ≡ Some node → ¬ (node.args ≡ [])
+      → new.applications ≡ old.applications ++ application_of n node ∷ []

@@ -19,9 +19,9 @@ ClosureIsExact closure nodes =
 
 -- the law: what edges make, fits a table and is at rest knows all that is derivable, and nothing else
 abbrev pub ExactAtRest : Type 0
-ExactAtRest = (closure : Congruence) (nodes : List Node) → AreClassesOf closure.lists closure.edges → Fits closure.lists nodes
+ExactAtRest = (closure : Congruence) (nodes : List Node) → AreClassesOf closure.lists closure.edges → Fits closure nodes
     → IsAtRest closure.lists nodes → ClosureIsExact closure nodes
 
 -- the law: what fits a table fits each longer one
 abbrev pub FitsLonger : Type 0
-FitsLonger = (closure : Congruence) (nodes more : List Node) → Fits closure.lists nodes → Fits closure.lists (nodes ++ more)
+FitsLonger = (closure : Congruence) (nodes more : List Node) → Fits closure nodes → Fits closure (nodes ++ more)

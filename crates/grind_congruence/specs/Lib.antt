@@ -7,3 +7,4 @@ pub mod Searching
 pub mod Forest
 pub mod Marks
 pub mod Table
+pub mod Changes

@@ -1,6 +1,7 @@
 //! Which of two trees hangs below the other.
 ghost use Rattle.grind_classes.specs.Classes.{IsActive};
 ghost use Rattle.grind_congruence.specs.Forest.{IsForest, IsJoinOf};
+ghost use Rattle.grind_congruence.specs.Table.{AreMoved};
 
 use crate::forest::{Forest, Join};
 use grind_classes::Classes;
@@ -35,4 +36,19 @@ fn below(forest: &Forest, from: NodeId, to: NodeId) -> Join
         from,
         to,
     }
+}
+
+// The members that a merge of the classes of two nodes moves: those of the smaller class, and where they are of one size, those
+// of the class of `b`.
+pub(crate) fn moved_by(classes: &Classes, a: NodeId, b: NodeId) -> &[NodeId]
+    requires first { IsActive classes.now.lists a }
+    requires second { IsActive classes.now.lists b }
+    ensures { AreMoved classes.now.lists a b result.now }
+{
+    let left = classes.members(classes.root(a));
+    let right = classes.members(classes.root(b));
+    if right.len() <= left.len() {
+        return right;
+    }
+    left
 }

@@ -1,78 +1,101 @@
 //! The search for two congruent nodes by a table of keys.
-ghost use Rattle.std.specs.Prelude.{◌≡◌, ℕ, [], All, IsTrue, IfOk, IfSome, IsNone, OnOk, ◌↔◌};
+ghost use Rattle.std.specs.Prelude.{◌≡◌, ◌<◌, ◌^◌, [], Some, None, All, IsTrue, IfOk, IfSome, IfNone, IsNone, length, slice_get, ◌↔◌};
 ghost use Rattle.std.specs.List.{AllZip};
 ghost use Rattle.grind_classes.specs.Classes.{IsActive, IsPartition};
-ghost use Rattle.grind_congruence.specs.Congruence.{Fits, IsAtRest};
-ghost use Rattle.grind_congruence.specs.Searching.{IsPair};
-ghost use Rattle.grind_congruence.specs.Table.{IsRootOf, IsKeyOf, IsSoundTable, IsCovered, KeepsKeys};
+ghost use Rattle.grind_congruence.specs.declared.application.Application.{Application};
+ghost use Rattle.grind_congruence.specs.Table.{IsAt, IsRootOf, IsKeyOf, IsSound, IsCovered, IsLonger, StandsFor, AreFoundAmong, agenda_of};
 
+use crate::application::Application;
 use crate::edge::Found;
+use crate::keys::Keys;
 use grind_classes::Classes;
 use grind_outside::{List, Memory};
-use grind_term_graph::{Args, Node, NodeId, TermTable};
-use indexmap::IndexMap;
+use grind_term_graph::{Args, Node, NodeId};
 use std::alloc::Global;
 
-// Two active nodes that are congruent and in different classes, if there are any. Each active node is looked at once.
-pub(crate) fn find_found(
+// What a search reads: the classes, the active nodes with arguments, and the places of those that have to be looked at.
+#[derive(Drop)]
+pub(crate) struct Look<'a> {
+    pub(crate) classes: &'a Classes,
+    pub(crate) applications: &'a [Application],
+    pub(crate) work: &'a [u32],
+}
+
+// Looks at what has to be looked at, from the cursor on, up to the first node that is congruent to one of another class.
+pub(crate) fn drain(
     alloc: Global,
-    classes: &Classes,
-    terms: &TermTable,
+    look: &Look<'_>,
+    table: &mut Keys,
+    cursor: &mut u32,
 ) -> Result<Option<Found>, Memory>
-    requires fits { Fits classes.now.lists terms.now.nodes }
-    requires partition { IsPartition classes.now.lists }
+    requires stands { StandsFor look.now.classes.now.lists (agenda_of table.old look.now.applications.now look.now.work.now cursor.old) }
+    requires partition { IsPartition look.now.classes.now.lists }
+    requires bound { length look.now.work.now < 2 ^ 32 }
+    ensures stands { StandsFor look.now.classes.now.lists (agenda_of table.new look.now.applications.now look.now.work.now cursor.new) }
+    ensures longer { IsLonger table.old table.new }
     ensures found { IfOk result (λ answer. IfSome answer
-        (λ found. IsPair classes.now.lists terms.now.nodes found.left found.right)) }
-    ensures none { IfOk result (λ answer. IsNone answer ↔ IsAtRest classes.now.lists terms.now.nodes) }
+        (λ found. AreFoundAmong look.now.classes.now.lists look.now.applications.now found.left found.right)) }
+    ensures none { IfOk result (λ answer. IsNone answer → cursor.new ≡ length look.now.work.now) }
 {
-    let mut table = IndexMap::new(alloc);
-    for number in 0..terms.len() {
-        let n = NodeId::new(number);
-        if let Some(found) = look_at(alloc, classes, terms, &mut table, n)? {
+    while (*cursor as usize) < look.work.len() {
+        let place = place_at(look.work, *cursor);
+        let answer = look_at(alloc, look, table, place)?;
+        if let Some(found) = answer {
             return Ok(Some(found));
         }
+        *cursor += 1;
     }
     Ok(None)
 }
 
-// A node whose key the table has with a node of another class, and that node. Else its key is in the table then.
+// The application at a place, if there is one.
+fn application_at(applications: &[Application], place: u32) -> Option<&Application>
+    ensures some { IfSome result (λ it. slice_get applications.now place ≡ Some it.now) }
+    ensures none { IfNone result (slice_get applications.now place ≡ None) }
+{
+    applications.get(place as usize)
+}
+
+// The place at the cursor.
+fn place_at(work: &[u32], cursor: u32) -> u32
+    requires { cursor < length work.now }
+    ensures { slice_get work.now cursor ≡ Some result }
+{
+    work[cursor as usize]
+}
+
+// The node of an application whose key the table has with a node of another class, and that node. Else the table has its key then.
 fn look_at(
     alloc: Global,
-    classes: &Classes,
-    terms: &TermTable,
-    table: &mut IndexMap<Node, NodeId>,
-    n: NodeId,
+    look: &Look<'_>,
+    table: &mut Keys,
+    place: u32,
 ) -> Result<Option<Found>, Memory>
-    requires fits { Fits classes.now.lists terms.now.nodes }
-    requires partition { IsPartition classes.now.lists }
-    requires sound { IsSoundTable classes.now.lists terms.now.nodes table.old }
+    requires sound { IsSound look.now.classes.now.lists look.now.applications.now table.old }
+    requires partition { IsPartition look.now.classes.now.lists }
+    ensures sound { IsSound look.now.classes.now.lists look.now.applications.now table.new }
+    ensures longer { IsLonger table.old table.new }
     ensures found { IfOk result (λ answer. IfSome answer
-        (λ found. IsPair classes.now.lists terms.now.nodes found.left found.right)) }
-    ensures sound { OnOk result (IsSoundTable classes.now.lists terms.now.nodes table.new) }
-    ensures kept { OnOk result (KeepsKeys table.old table.new) }
-    ensures covered { IfOk result (λ answer. IsNone answer → IsCovered classes.now.lists terms.now.nodes table.new n) }
+        (λ found. AreFoundAmong look.now.classes.now.lists look.now.applications.now found.left found.right)) }
+    ensures covered { IfOk result (λ answer. IsNone answer → (it : Application) → IsAt look.now.applications.now place it
+        → IsCovered look.now.classes.now.lists table.new it) }
 {
-    if !classes.is_active(n) {
+    let Some(it) = application_at(look.applications, place) else {
+        return Ok(None);
+    };
+    let key = key_of(alloc, look.classes, &it.term)?;
+    let m = table.enter(key, it.node)?;
+    if look.classes.same(m, it.node) {
         return Ok(None);
     }
-    let node = terms.node(n);
-    if !has_args(node) {
-        return Ok(None);
-    }
-    let key = key_of(alloc, classes, node)?;
-    if let Some(m) = table.get(&key) {
-        let m = *m;
-        if classes.same(m, n) {
-            return Ok(None);
-        }
-        return Ok(Some(Found { left: m, right: n }));
-    }
-    table.insert(key, n)?;
-    Ok(None)
+    Ok(Some(Found {
+        left: m,
+        right: it.node,
+    }))
 }
 
 // Whether a node has arguments.
-fn has_args(node: &Node) -> bool
+pub(crate) fn has_args(node: &Node) -> bool
     ensures { IsTrue result ↔ ¬ (node.now.args ≡ []) }
 {
     !node.args.as_slice().is_empty()

@@ -2,8 +2,8 @@
 ghost use Rattle.std.specs.Prelude.{◌≡◌, ℕ, ◌<◌, All, length, IfSome, IsNone, IsTrue, ◌↔◌};
 ghost use Rattle.std.specs.List.{AllZip};
 ghost use Rattle.grind_classes.specs.Classes.{IsActive, AreTogether, IsPartition};
-ghost use Rattle.grind_congruence.specs.Congruence.{AreCongruent, Fits, IsAtRest};
-ghost use Rattle.grind_congruence.specs.Searching.{IsPair, HasNoPartner};
+ghost use Rattle.grind_congruence.specs.Congruence.{AreCongruent, IsAtRest};
+ghost use Rattle.grind_congruence.specs.Searching.{AreNodesOf, IsPair, HasNoPartner};
 
 use crate::edge::Found;
 use grind_classes::Classes;
@@ -12,7 +12,7 @@ use grind_term_graph::{NodeId, TermTable};
 // Two active nodes that are congruent and not together, if there are any.
 pub(crate) fn find_pair(classes: &Classes, terms: &TermTable) -> Option<Found>
     requires partition { IsPartition classes.now.lists }
-    requires fits { Fits classes.now.lists terms.now.nodes }
+    requires fits { AreNodesOf classes.now.lists terms.now.nodes }
     ensures found { IfSome result (λ found. IsPair classes.now.lists terms.now.nodes found.left found.right) }
     ensures none { IsNone result ↔ IsAtRest classes.now.lists terms.now.nodes }
 {
@@ -27,7 +27,7 @@ pub(crate) fn find_pair(classes: &Classes, terms: &TermTable) -> Option<Found>
 
 // An active node that is congruent to a node and not together with it, if there is one.
 fn partner(classes: &Classes, terms: &TermTable, a: NodeId) -> Option<NodeId>
-    requires fits { Fits classes.now.lists terms.now.nodes }
+    requires fits { AreNodesOf classes.now.lists terms.now.nodes }
     requires within { a < length terms.now.nodes }
     ensures found { IfSome result (λ b. IsPair classes.now.lists terms.now.nodes a b) }
     ensures none { IsNone result → HasNoPartner classes.now.lists terms.now.nodes a }
@@ -43,7 +43,7 @@ fn partner(classes: &Classes, terms: &TermTable, a: NodeId) -> Option<NodeId>
 
 // Whether two nodes are active, congruent and not together.
 fn is_pair(classes: &Classes, terms: &TermTable, a: NodeId, b: NodeId) -> bool
-    requires fits { Fits classes.now.lists terms.now.nodes }
+    requires fits { AreNodesOf classes.now.lists terms.now.nodes }
     ensures { IsTrue result ↔ IsPair classes.now.lists terms.now.nodes a b }
 {
     if !classes.is_active(a) || !classes.is_active(b) {
@@ -57,7 +57,7 @@ fn is_pair(classes: &Classes, terms: &TermTable, a: NodeId, b: NodeId) -> bool
 
 // Whether two active nodes are congruent.
 fn are_congruent(classes: &Classes, terms: &TermTable, a: NodeId, b: NodeId) -> bool
-    requires fits { Fits classes.now.lists terms.now.nodes }
+    requires fits { AreNodesOf classes.now.lists terms.now.nodes }
     requires first { IsActive classes.now.lists a }
     requires second { IsActive classes.now.lists b }
     ensures { IsTrue result ↔ AreCongruent classes.now.lists terms.now.nodes a b }

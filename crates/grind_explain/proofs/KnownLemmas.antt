@@ -44,10 +44,10 @@ known_below proof branch edges known places told below =
     All-weaker (λ place. place < length known) (IsKnown proof branch edges known) (λ place less. told place less) places below
 
 -- the same terms, after lines were put behind a proof
-pub Fits-appends : (lemmas : Lemmas) (goal : GoalData) (old new : Proof) (branch : ℕ) (lists : List (List ℕ)) →
-    Appends lemmas goal old new branch → Fits lists old.terms.nodes → Fits lists new.terms.nodes
-Fits-appends lemmas goal old new branch lists grown fits =
-    subst (λ (terms : Terms). Fits lists terms.nodes) (sym grown.terms) fits
+pub Fits-appends : (lemmas : Lemmas) (goal : GoalData) (old new : Proof) (branch : ℕ) (closure : Congruence) →
+    Appends lemmas goal old new branch → Fits closure old.terms.nodes → Fits closure new.terms.nodes
+Fits-appends lemmas goal old new branch closure grown fits =
+    subst (λ (terms : Terms). Fits closure terms.nodes) (sym grown.terms) fits
 
 pub AreKnown-stays : (lemmas : Lemmas) (goal : GoalData) (old new : Proof) (branch : ℕ) (edges : List Edge) (known : List ℕ) →
     Appends lemmas goal old new branch → AreKnown old branch edges known → AreKnown new branch edges known
@@ -77,7 +77,7 @@ IsHalfTold-step lemmas goal old now new branch closure known lefts rights left l
     left_is right_is longer_is h grown ready tells = record {
       appends = Appends-through lemmas goal old now new branch h.appends grown;
       ready = ready;
-      fits = Fits-appends lemmas goal now new branch closure.lists grown h.fits;
+      fits = Fits-appends lemmas goal now new branch closure grown h.fits;
       edges_known = AreKnown-stays lemmas goal now new branch closure.edges known grown h.edges_known;
       left_active = All-others (IsActive closure.lists) left left_tail a left_is h.left_active;
       right_active = All-others (IsActive closure.lists) right right_tail b right_is h.right_active;
@@ -213,7 +213,7 @@ ends_active closure place edge tied stands =
 
 -- the first edges are begun
 pub AreKnownSoFar-start : (lemmas : Lemmas) (goal : GoalData) (proof : Proof) (branch : ℕ) (closure : Congruence) (whys : List Why) (count : ℕ) →
-    IsReady lemmas goal proof branch → Fits closure.lists proof.terms.nodes → HasReasons proof branch closure.edges whys count →
+    IsReady lemmas goal proof branch → Fits closure proof.terms.nodes → HasReasons proof branch closure.edges whys count →
     AreKnownSoFar lemmas goal proof proof branch closure whys count 0 []
 AreKnownSoFar-start lemmas goal proof branch closure whys count ready fits reasons = record {
   appends = Appends-none lemmas goal proof branch ready.typed;
@@ -242,7 +242,7 @@ AreKnownSoFar-step lemmas goal old now new branch closure whys count place numbe
     record {
       appends = Appends-through lemmas goal old now new branch h.appends grown;
       ready = ready;
-      fits = Fits-appends lemmas goal now new branch closure.lists grown h.fits;
+      fits = Fits-appends lemmas goal now new branch closure grown h.fits;
       reasons = HasReasons-stays lemmas goal now new branch closure.edges whys count grown h.reasons;
       long = ap length longer_is ∙ long ∙ ap (λ n. n + 1) h.long;
       edges_known = subst (λ (ns : List ℕ). AreKnown new branch closure.edges ns) (sym longer_is) all;
@@ -292,7 +292,7 @@ known_all proof branch edges read_edges known read_known places read_places coun
     (subst (λ (ps : List ℕ). All (IsKnown proof branch edges known) ps) (sym same_places) all))
 
 -- a node of a class stands among the terms, which are still the same
-pub within_appends : (lemmas : Lemmas) (goal : GoalData) (old new : Proof) (branch : ℕ) (lists : List (List ℕ)) (a b : ℕ) →
-    Appends lemmas goal old new branch → Fits lists old.terms.nodes → AreTogether lists a b → a < length new.terms.nodes
-within_appends lemmas goal old new branch lists a b grown fits both =
-    (Fits-appends lemmas goal old new branch lists grown fits).within a (both.0, both.1)
+pub within_appends : (lemmas : Lemmas) (goal : GoalData) (old new : Proof) (branch : ℕ) (closure : Congruence) (a b : ℕ) →
+    Appends lemmas goal old new branch → Fits closure old.terms.nodes → AreTogether closure.lists a b → a < length new.terms.nodes
+within_appends lemmas goal old new branch closure a b grown fits both =
+    (Fits-appends lemmas goal old new branch closure grown fits).within a (both.0, both.1)

@@ -74,7 +74,7 @@ pub record IsHalfTold (lemmas : Lemmas) (goal : GoalData) (old now : Proof) (bra
     (known lefts rights left right numbers : List ℕ) : Type 0 where
   pub appends : Appends lemmas goal old now branch
   pub ready : IsReady lemmas goal now branch
-  pub fits : Fits closure.lists now.terms.nodes
+  pub fits : Fits closure now.terms.nodes
   pub edges_known : AreKnown now branch closure.edges known
   pub left_active : All (IsActive closure.lists) left
   pub right_active : All (IsActive closure.lists) right
@@ -87,7 +87,7 @@ pub record AreKnownSoFar (lemmas : Lemmas) (goal : GoalData) (old now : Proof) (
     (count place : ℕ) (known : List ℕ) : Type 0 where
   pub appends : Appends lemmas goal old now branch
   pub ready : IsReady lemmas goal now branch
-  pub fits : Fits closure.lists now.terms.nodes
+  pub fits : Fits closure now.terms.nodes
   pub reasons : HasReasons now branch closure.edges whys count
   pub long : length known ≡ place
   pub edges_known : AreKnown now branch closure.edges known

@@ -38,7 +38,7 @@ pub fn explain(
     b: NodeId,
 ) -> Result<u32, Memory>
     requires together { AreTogether closure.now.lists a b }
-    requires fits { Fits closure.now.lists proof.old.terms.nodes }
+    requires fits { Fits closure.now proof.old.terms.nodes }
     requires ready { IsReady lemmas.now goal.now proof.old branch }
     requires reasons { (count : ℕ) → IsFewest closure.now.edges count a b
         → HasReasons proof.old branch closure.now.edges whys.now count }

@@ -36,7 +36,7 @@ impl<'a> Course<'a> {
     // Derives the equalities of the first edges, so many of them, and answers the numbers of the lines that tell them.
     pub(crate) fn known_lines(&self, proof: &mut Proof, count: usize) -> Result<List<u32>, Memory>
         requires ready { CanWrite self.now.writer.now proof.old }
-        requires fits { Fits self.now.closure.now.lists proof.old.terms.nodes }
+        requires fits { Fits self.now.closure.now proof.old.terms.nodes }
         requires count { count ≤ length self.now.closure.now.edges }
         requires reasons { HasReasons proof.old self.now.writer.now.branch self.now.closure.now.edges self.now.whys.now count }
         ensures writes { Writes self.now.writer.now proof.old proof.new }
@@ -57,7 +57,7 @@ impl<'a> Course<'a> {
     // A line that tells the next edge: the one that is named as its reason, or a new one.
     fn line_of_edge(&self, proof: &mut Proof, known: &[u32], edge: &Edge) -> Result<u32, Memory>
         requires ready { CanWrite self.now.writer.now proof.old }
-        requires fits { Fits self.now.closure.now.lists proof.old.terms.nodes }
+        requires fits { Fits self.now.closure.now proof.old.terms.nodes }
         requires known { AreKnown proof.old self.now.writer.now.branch self.now.closure.now.edges known.now }
         requires left { IsActive self.now.closure.now.lists edge.now.left }
         requires right { IsActive self.now.closure.now.lists edge.now.right }
@@ -87,7 +87,7 @@ impl<'a> Course<'a> {
         right: NodeId,
     ) -> Result<u32, Memory>
         requires ready { CanWrite self.now.writer.now proof.old }
-        requires fits { Fits self.now.closure.now.lists proof.old.terms.nodes }
+        requires fits { Fits self.now.closure.now proof.old.terms.nodes }
         requires left { IsActive self.now.closure.now.lists left }
         requires right { IsActive self.now.closure.now.lists right }
         requires known { AreKnown proof.old self.now.writer.now.branch self.now.closure.now.edges known.now }
@@ -114,7 +114,7 @@ impl<'a> Course<'a> {
         rights: &[NodeId],
     ) -> Result<List<u32>, Memory>
         requires ready { CanWrite self.now.writer.now proof.old }
-        requires fits { Fits self.now.closure.now.lists proof.old.terms.nodes }
+        requires fits { Fits self.now.closure.now proof.old.terms.nodes }
         requires known { AreKnown proof.old self.now.writer.now.branch self.now.closure.now.edges known.now }
         requires left { All (IsActive self.now.closure.now.lists) lefts.now }
         requires right { All (IsActive self.now.closure.now.lists) rights.now }
@@ -147,7 +147,7 @@ impl<'a> Course<'a> {
         b: NodeId,
     ) -> Result<u32, Memory>
         requires ready { CanWrite self.now.writer.now proof.old }
-        requires fits { Fits self.now.closure.now.lists proof.old.terms.nodes }
+        requires fits { Fits self.now.closure.now proof.old.terms.nodes }
         requires known { AreKnown proof.old self.now.writer.now.branch self.now.closure.now.edges known.now }
         requires left { IsActive self.now.closure.now.lists a }
         requires right { IsActive self.now.closure.now.lists b }

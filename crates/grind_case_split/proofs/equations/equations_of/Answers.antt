@@ -11,7 +11,7 @@ returns-clause-active c = c.in_ok-closure.ensures.built.active
 
 pub returns-clause-fits : goal.returns-clause-fits
 returns-clause-fits c =
-    subst (λ (nodes : List Node). Fits c.in_ok-closure.closure.lists nodes)
+    subst (λ (nodes : List Node). Fits c.in_ok-closure.closure nodes)
     (sym (rooted_terms c.args.lemmas.now c.args.goal.now c.write_all.new.proof c.in_ok-write_all.ensures.ledger.rooted))
     c.in_ok-closure.ensures.built.fits
 

@@ -23,7 +23,7 @@ known_lines-requires-clause-reasons c =
 
 pub chain-requires-clause-within : goal.chain-requires-clause-within
 chain-requires-clause-within c =
-    within_appends c.args.lemmas.now c.args.goal.now c.args.proof.now c.known_lines.new.proof c.args.branch c.args.closure.now.lists
+    within_appends c.args.lemmas.now c.args.goal.now c.args.proof.now c.known_lines.new.proof c.args.branch c.args.closure.now
     c.args.a c.args.b c.known_lines.ensures.writes c.requires.fits c.requires.together
 
 pub chain-requires-clause-known : goal.chain-requires-clause-known

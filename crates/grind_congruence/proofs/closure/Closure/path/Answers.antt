@@ -12,7 +12,7 @@ pub tree_way-requires-clause-joined : goal.tree_way-requires-clause-joined
 tree_way-requires-clause-joined c =
     let lists_are : c.self.inside.classes.lists ≡ c.args.self.now.lists = ap (λ (t : Congruence). t.lists) c.self.view_is in
     let together : AreTogether c.self.inside.classes.lists c.args.a c.args.b = rw lists_are c.requires in
-    together_joined c.self.inside.classes.lists c.self.inside.edges c.self.inside.forest c.args.a c.args.b c.self.invariant.0.classes c.self.invariant.1 together
+    together_joined c.self.inside.classes.lists c.self.inside.edges c.self.inside.forest c.args.a c.args.b c.self.invariant.0.present.classes c.self.invariant.1 together
 
 pub tree_way-requires-clause-edges : goal.tree_way-requires-clause-edges
 tree_way-requires-clause-edges c = rw c.as_slice.ensures.value c.self.invariant.1
