@@ -21,7 +21,7 @@ FILES = {
     "grind_polynomials": ["Numbers", "Polynomials", "Sums", "Readings", "Pairs", "Reduction", "Gathering", "FinalFactors", "Values", "Laws"],
     "grind_differences": ["Bounds", "Differences", "Equations", "Laws"],
     "grind_classes": ["Classes", "Trail"],
-    "grind_congruence": ["Derivable", "Congruence", "Edges", "Marks", "Table", "Forest", "Exact", "Asserted"],
+    "grind_congruence": ["Derivable", "Congruence", "Edges", "Marks", "Table", "Changes", "Forest", "Exact", "Asserted"],
     "grind_schemes": ["Labels", "Goals", "Limits", "Schemes", "Theorems", "Instances", "Laws"],
     "grind_claims": ["Claims", "Literals", "Laws"],
     "grind_rules": ["Tables", "LinearRules", "PolyRules", "Rules", "Laws"],
