@@ -22,7 +22,7 @@ FILES = {
     "grind_normal_forms": ["Pairs", "Reduction", "Gathering", "FinalFactors", "Laws"],
     "grind_differences": ["Bounds", "Differences", "Equations", "Held", "Laws"],
     "grind_classes": ["Classes", "Trail"],
-    "grind_congruence": ["Derivable", "Congruence", "Edges", "Marks", "Table", "Forest", "Exact", "Asserted"],
+    "grind_congruence": ["Derivable", "Congruence", "Edges", "Marks", "Table", "Changes", "Forest", "Exact", "Asserted"],
     "grind_schemes": ["Labels", "Goals", "Limits", "Schemes", "Theorems", "Instances", "InstanceNodes", "Laws"],
     "grind_claims": ["Claims", "Laws"],
     "grind_term_rules": ["TermRules"],
