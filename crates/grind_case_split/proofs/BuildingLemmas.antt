@@ -1,5 +1,5 @@
 -- Steps in the building of a closure.
-use Rattle.std.specs.Prelude.{◌≡◌, ℕ, zero, suc, ◌+◌, ◌<◌, ◌≤◌, List, [], ◌∷◌, ◌++◌, Some, All, Contains, length, slice_get, slice_set, take, ◌⊎◌, ◌↔◌, refl}
+use Rattle.std.specs.Prelude.{◌≡◌, ℕ, zero, suc, ◌+◌, ◌<◌, ◌≤◌, true, List, [], ◌∷◌, ◌++◌, Some, All, Contains, length, slice_get, slice_set, take, ◌⊎◌, ◌↔◌, refl}
 use Rattle.std.specs.List.{AllZip}
 use Rattle.std.proofs.Common.{arith, sym, ap, ◌∙◌, subst, inl, inr}
 use Rattle.std.proofs.lemmas.Bool.{cases_eq}
@@ -13,7 +13,7 @@ use Rattle.grind_congruence.specs.Congruence.{Congruence, AreCongruent, Fits}
 use Rattle.grind_congruence.specs.Edges.{Leads, Joins, AreClassesOf}
 use Rattle.grind_congruence.specs.Asserted.{IsJoined}
 use Rattle.grind_congruence.proofs.EdgeLemmas.{together-itself, active-left, active-right}
-use Rattle.grind_case_split.specs.Building.{IsFounded, AreFounded, IsBuilt, KeepsTogether, IsAsserted, class_count, IsOneMore, HasRest, AreAsserted, IsActiveBelow, IsAsserting, IsClosure}
+use Rattle.grind_case_split.specs.Building.{IsFounded, AreFounded, IsBuilt, KeepsTogether, IsAsserted, class_count, IsOneMore, HasRest, IsStepped, AreAsserted, IsActiveBelow, IsAsserting, IsClosure}
 
 -- how many lists these members are
 abbrev filled : List ℕ → ℕ
