@@ -1,0 +1,3 @@
+pub mod FormsFit
+pub mod PolysFit
+pub mod RulesFit
