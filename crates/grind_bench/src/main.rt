@@ -1,12 +1,14 @@
 //! Does one piece of work of a given size and times it, for a script. The words are `chain SIZE JOBS`, a proof of so many
 //! lines checked by so many jobs (with 0 jobs the checker of one thread does it), or `linear FILE`, `poly FILE` or
 //! `normal FILE`: the readings of the left side of the conclusion of the file's first goal, and the normal form of the
-//! last by the differences of the sides of the hypotheses. The microseconds that the work took are written to standard error.
+//! last by the differences of the sides of the hypotheses, or `form_pairs FILE` or `poly_pairs FILE`: how many hypotheses
+//! have sides whose readings have a difference, all read in one pass. The microseconds that the work took are written to standard error.
 #![tactic(auto)]
 
 ghost use Rattle.grind_proof_kernel.specs.Typing.{HasTerms};
 
 mod chains;
+mod pairs;
 mod readings;
 
 use chains::chain;
@@ -16,6 +18,7 @@ use grind_par_check::check_parallel;
 use grind_proof_kernel::{Proof, Verdict, check};
 use grind_schemes::{Goal, Lemmas};
 use grind_theory::Theory;
+use pairs::{form_pairs, poly_pairs};
 use readings::{are_nonzero, basis_of, left_side, parts_of, rest_of, terms_of};
 use std::alloc::Global;
 use std::env;
@@ -33,15 +36,19 @@ const MOST: u32 = 4_000_000;
 /// A theory file has at most so many bytes.
 const LONGEST: u64 = 4_194_304;
 
-/// How a term is read.
+/// How terms are read.
 #[derive(Clone, Copy)]
-enum Reading {
+enum ReadAs {
     /// As a linear form.
     Linear,
     /// As a polynomial.
     Polynomial,
     /// As the normal form of one.
     Normal,
+    /// Many, as linear forms, for their differences.
+    FormPairs,
+    /// Many, as polynomials, for their differences.
+    PolyPairs,
 }
 
 /// What the words ask for.
@@ -50,7 +57,7 @@ enum Work {
     /// A chain of so many lines is checked by so many jobs.
     Chain { size: u32, jobs: u32 },
     /// A term of the file is read.
-    Read { reading: Reading, name: String },
+    Read { reading: ReadAs, name: String },
 }
 
 /// What came of it: how much was made, where something was, and how many microseconds it took.
@@ -114,11 +121,13 @@ fn chain_of(family: &str, size: &str, jobs: &str) -> Option<Work> {
 }
 
 /// The reading of that name.
-fn reading_of(word: &str) -> Option<Reading> {
+fn reading_of(word: &str) -> Option<ReadAs> {
     match word {
-        "linear" => Some(Reading::Linear),
-        "poly" => Some(Reading::Polynomial),
-        "normal" => Some(Reading::Normal),
+        "linear" => Some(ReadAs::Linear),
+        "poly" => Some(ReadAs::Polynomial),
+        "normal" => Some(ReadAs::Normal),
+        "form_pairs" => Some(ReadAs::FormPairs),
+        "poly_pairs" => Some(ReadAs::PolyPairs),
         _ => None,
     }
 }
@@ -189,7 +198,7 @@ fn judged<R: Threads + Sync>(
 /// Reads a term of the file's first goal.
 fn read<R: Clock + Files + AllocGlobal>(
     rt: &R,
-    reading: Reading,
+    reading: ReadAs,
     name: &str,
 ) -> Result<Outcome, Memory> {
     let alloc = rt.alloc();
@@ -199,24 +208,25 @@ fn read<R: Clock + Files + AllocGlobal>(
     let Some(goal) = theory.goals.as_slice().first() else {
         return Err(Memory);
     };
+    if let ReadAs::Normal = reading {
+        return reduced(rt, alloc, goal);
+    }
+    let start = Instant::now(rt);
+    let count = counted(alloc, goal, reading)?;
+    Ok(Outcome {
+        count,
+        micros: since(rt, start),
+    })
+}
+
+/// How much a reading of the goal's terms makes.
+fn counted(alloc: Global, goal: &Goal, reading: ReadAs) -> Result<Option<usize>, Memory> {
     match reading {
-        Reading::Linear => {
-            let start = Instant::now(rt);
-            let count = parts_of(alloc, goal)?;
-            Ok(Outcome {
-                count,
-                micros: since(rt, start),
-            })
-        }
-        Reading::Polynomial => {
-            let start = Instant::now(rt);
-            let count = terms_of(alloc, goal)?;
-            Ok(Outcome {
-                count,
-                micros: since(rt, start),
-            })
-        }
-        Reading::Normal => reduced(rt, alloc, goal),
+        ReadAs::Linear => parts_of(alloc, goal),
+        ReadAs::Polynomial => terms_of(alloc, goal),
+        ReadAs::Normal => Ok(None),
+        ReadAs::FormPairs => form_pairs(alloc, goal),
+        ReadAs::PolyPairs => poly_pairs(alloc, goal),
     }
 }
 

@@ -11,8 +11,10 @@ use Rattle.grind_schemes.specs.declared.scheme.Scheme.{Scheme}
 use Rattle.grind_schemes.specs.Schemes.{IsScheme}
 use Rattle.grind_schemes.specs.Labels.{IsLabel}
 use Rattle.grind_schemes.specs.Goals.{goal_data, IsFormula, IsGoal}
-use Rattle.grind_schemes.specs.Instances.{interned, BeginsWith}
-use Rattle.grind_schemes.proofs.InstanceLemmas.{interned-grows, BeginsWith-refl, BeginsWith-trans, BeginsWith-length, sort_at-grows}
+use Rattle.grind_term_graph.specs.Beginnings.{BeginsWith}
+use Rattle.grind_term_graph.proofs.Beginnings.{BeginsWith-refl, BeginsWith-trans, BeginsWith-length}
+use Rattle.grind_schemes.specs.Instances.{interned}
+use Rattle.grind_schemes.proofs.InstanceLemmas.{interned-grows, sort_at-grows}
 use Rattle.grind_grammar.specs.Terms.{Term}
 use Rattle.grind_signature.specs.Signatures.{SignatureData, IsDeclared}
 use Rattle.grind_resolution.specs.declared.meaning.BinderKind.TheVariants as kinds

@@ -12,12 +12,14 @@ use Rattle.grind_term_graph.specs.Terms.{prop, int, sort_at, opening as opening_
 use Rattle.grind_term_graph.specs.Placed.{placed, node_eq}
 use Rattle.grind_term_graph.proofs.Placing.{placed-present, placed-absent, list_any-decides, slice_get-placed, placed-grows}
 use Rattle.grind_term_graph.proofs.Tables.{sorts-append, sort_at-slice_get}
+use Rattle.grind_term_graph.specs.Beginnings.{BeginsWith}
+use Rattle.grind_term_graph.proofs.Beginnings.{BeginsWith-refl, BeginsWith-trans}
 use Rattle.grind_schemes.specs.declared.goal.Constant.{Constant}
 use Rattle.grind_schemes.specs.declared.scheme.Scheme.{Scheme}
 use Rattle.grind_schemes.specs.Goals.{AreAlike}
-use Rattle.grind_schemes.specs.Instances.{node_of, interned, BeginsWith}
+use Rattle.grind_schemes.specs.Instances.{node_of, interned}
 use Rattle.grind_schemes.specs.InstanceRows.{interned_list, interned_at}
-use Rattle.grind_schemes.proofs.InstanceLemmas.{interned-Apply, BeginsWith-refl, BeginsWith-trans, sort_at-within, sort_at-grows}
+use Rattle.grind_schemes.proofs.InstanceLemmas.{interned-Apply, sort_at-within, sort_at-grows}
 use Rattle.grind_grammar.specs.declared.syntax.Unary.{Unary}
 use Rattle.grind_grammar.specs.declared.syntax.Unary.TheVariants as unaries
 use Rattle.grind_grammar.specs.declared.syntax.Binary.{Binary}

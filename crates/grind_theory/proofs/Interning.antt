@@ -5,8 +5,10 @@ use Rattle.std.proofs.lemmas.List.{append-nil}
 use Rattle.grind_term_graph.specs.declared.node.Node.{Node}
 use Rattle.grind_term_graph.specs.Placed.{placed}
 use Rattle.grind_schemes.specs.declared.scheme.Scheme.{Scheme, Var, Apply', Row_of-Scheme, end_of-Scheme, more_of-Scheme}
-use Rattle.grind_schemes.specs.Instances.{node_of, interned, interned_row, BeginsWith}
-use Rattle.grind_schemes.proofs.InstanceLemmas.{interned-grows, BeginsWith-refl, BeginsWith-trans, BeginsWith-length}
+use Rattle.grind_term_graph.specs.Beginnings.{BeginsWith}
+use Rattle.grind_term_graph.proofs.Beginnings.{BeginsWith-refl, BeginsWith-trans, BeginsWith-length}
+use Rattle.grind_schemes.specs.Instances.{node_of, interned, interned_row}
+use Rattle.grind_schemes.proofs.InstanceLemmas.{interned-grows}
 use Rattle.grind_grammar.specs.Terms.{Term}
 use Rattle.grind_resolution.specs.Scopes.{Given}
 use Rattle.grind_resolution.specs.Resolved.{StandsFor}
