@@ -44,12 +44,12 @@ pub fn poly_pairs(alloc: Global, goal: &Goal) -> Result<Option<usize>, Memory> {
 fn form_differences(alloc: Global, reader: &FormReader) -> Result<usize, Memory>
     requires { HoldsForms reader.now.terms.now.nodes reader.now.ids.now reader.now.forms }
 {
-    let mut count = 0;
+    let mut count: usize = 0;
     for place in 0..reader.ids.len() / 2 {
         let left = id_at(reader.ids, 2 * place);
         let right = id_at(reader.ids, 2 * place + 1);
         if reader.difference(alloc, left, right)?.is_some() {
-            count += 1;
+            count = count.saturating_add(1);
         }
     }
     Ok(count)
@@ -59,12 +59,12 @@ fn form_differences(alloc: Global, reader: &FormReader) -> Result<usize, Memory>
 fn poly_differences(alloc: Global, reader: &PolyReader) -> Result<usize, Memory>
     requires { HoldsPolys reader.now.terms.now.nodes reader.now.ids.now reader.now.polys }
 {
-    let mut count = 0;
+    let mut count: usize = 0;
     for place in 0..reader.ids.len() / 2 {
         let left = id_at(reader.ids, 2 * place);
         let right = id_at(reader.ids, 2 * place + 1);
         if reader.difference(alloc, left, right)?.is_some() {
-            count += 1;
+            count = count.saturating_add(1);
         }
     }
     Ok(count)
