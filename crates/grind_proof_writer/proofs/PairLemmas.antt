@@ -15,7 +15,7 @@ use Rattle.grind_claims.specs.declared.proof.Branch.{Branch}
 use Rattle.grind_claims.specs.declared.proof.Line.{Line}
 use Rattle.grind_claims.specs.declared.proof.Proof.{Proof}
 use Rattle.grind_claims.specs.Claims.{IsFormed}
-use Rattle.grind_claims.specs.Literals.{IsLiteral, AreOpposite}
+use Rattle.grind_proof_kernel.specs.Literals.{IsLiteral, AreOpposite}
 use Rattle.grind_proof_kernel.specs.Typing.{IsTypedAs, IsPairOf, IsParent, IsFirst, IsSecond, IsInPair, branch_at, parent_of, begin_of, literal_of}
 use Rattle.grind_proof_kernel.specs.Laws.{Extends, TypedLinesStay}
 use Rattle.grind_proof_writer.specs.Lines.{AreTyped}

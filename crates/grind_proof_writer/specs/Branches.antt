@@ -8,7 +8,7 @@ use Rattle.grind_claims.specs.declared.claim.Claim.{Claim}
 use Rattle.grind_claims.specs.declared.proof.Branch.{Branch}
 use Rattle.grind_claims.specs.declared.proof.Line.{Line}
 use Rattle.grind_claims.specs.declared.proof.Proof.{Proof}
-use Rattle.grind_claims.specs.Literals.{AreOpposite}
+use Rattle.grind_proof_kernel.specs.Literals.{AreOpposite}
 use Rattle.grind_proof_kernel.specs.Typing.{HasTerms, IsBranch, IsParent, IsClosed, IsInPair, StandsBehind, Reaches, literal_of}
 use Rattle.grind_proof_writer.specs.Lines.{AreTyped}
 

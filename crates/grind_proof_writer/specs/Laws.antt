@@ -6,7 +6,7 @@ use Rattle.grind_claims.specs.declared.claim.Claim.{Claim}
 use Rattle.grind_claims.specs.declared.claim.Claim.TheVariants.{Absurd}
 use Rattle.grind_claims.specs.declared.proof.Proof.{Proof}
 use Rattle.grind_claims.specs.Claims.{IsFormed}
-use Rattle.grind_claims.specs.Literals.{IsLiteral, AreOpposite}
+use Rattle.grind_proof_kernel.specs.Literals.{IsLiteral, AreOpposite}
 use Rattle.grind_proof_kernel.specs.Typing.{HasTerms, IsBranch, IsClosed, Typed}
 use Rattle.grind_proof_kernel.specs.Laws.{Extends}
 use Rattle.grind_proof_writer.specs.Lines.{IsReady, Tells, Appends, EndsWith}

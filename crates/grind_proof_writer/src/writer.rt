@@ -3,7 +3,7 @@ ghost use Rattle.std.specs.Prelude.{◌≡◌, ℕ, ◌+◌, ◌<◌, ◌∷◌,
 ghost use Rattle.grind_claims.specs.declared.claim.Claim.TheVariants.{Same, Absurd};
 ghost use Rattle.grind_claims.specs.declared.proof.Rule.TheVariants.{Clash};
 ghost use Rattle.grind_claims.specs.Claims.{IsFormed};
-ghost use Rattle.grind_claims.specs.Literals.{IsLiteral};
+ghost use Rattle.grind_proof_kernel.specs.Literals.{IsLiteral};
 ghost use Rattle.grind_proof_kernel.specs.Typing.{appended};
 ghost use Rattle.grind_proof_writer.specs.Lines.{IsUsable, EndsWith, line_of};
 ghost use Rattle.grind_proof_writer.specs.Branches.{IsLeaf, IsSplitBy, with_branches};
@@ -11,7 +11,7 @@ ghost use Rattle.grind_proof_writer.specs.Writing.{IsBegun, CanWrite, IsGoodFor,
 
 use crate::equality::Equality;
 use crate::laws::pair_keeps_good;
-use grind_claims::literals::opposite;
+use grind_proof_kernel::literals::opposite;
 use grind_outside::{List, Memory};
 use grind_proof_kernel::laws::{typed_lines_stay, typed_next_line};
 use grind_proof_kernel::{Branch, Claim, Line, Proof, Rule, derive};
