@@ -10,24 +10,24 @@ use Rattle.grind_claims.proofs.Growth.{some_and_then}
 use Rattle.grind_claims.specs.declared.proof.Branch.{Branch}
 use Rattle.grind_claims.specs.declared.proof.Line.{Line}
 use Rattle.grind_claims.specs.declared.proof.Proof.{Proof}
-use Rattle.grind_proof_kernel.specs.Typing.{IsParent, IsClosed, IsListed, IsGoodBranch}
-use Rattle.grind_proof_writer.specs.Branches.{IsInPlace, HasPlace, IsGoodSoFar}
+use Rattle.grind_proof_kernel.specs.Typing.{IsParent, IsClosed, IsInPlace, IsGoodBranch}
+use Rattle.grind_proof_writer.specs.Branches.{IsPlacedSoFar, HasPlace, IsGoodSoFar}
 use Rattle.grind_proof_writer.specs.Laws.{FinishedIsTyped, GoodIsReady}
 
 -- a branch in its place that ends is good
 ended_is_good : (proof : Proof) (b : ℕ) → HasPlace proof b → (IsParent proof.branches b ⊎ IsClosed proof.lines b) → IsGoodBranch proof b
 ended_is_good proof zero place ends = record { stands = λ i h. omega arith; ends = ends }
 ended_is_good proof (suc b) place ends =
-    some_and_then (IsInPlace proof.terms.nodes proof.branches proof.lines (suc b))
-    (IsListed proof.terms.nodes proof.branches proof.lines (suc b)) (slice_get proof.branches b)
+    some_and_then (IsPlacedSoFar proof.terms.nodes proof.branches proof.lines (suc b))
+    (IsInPlace proof.terms.nodes proof.branches proof.lines (suc b)) (slice_get proof.branches b)
     (λ it here. record { pair = here.pair; whole = record { stands = here.stands; ends = ends } }) place
 
 -- a good branch is in its place
 good_has_place : (proof : Proof) (b : ℕ) → IsGoodBranch proof b → HasPlace proof b
 good_has_place proof zero good = tt
 good_has_place proof (suc b) good =
-    some_and_then (IsListed proof.terms.nodes proof.branches proof.lines (suc b))
-    (IsInPlace proof.terms.nodes proof.branches proof.lines (suc b)) (slice_get proof.branches b)
+    some_and_then (IsInPlace proof.terms.nodes proof.branches proof.lines (suc b))
+    (IsPlacedSoFar proof.terms.nodes proof.branches proof.lines (suc b)) (slice_get proof.branches b)
     (λ it here. record { pair = here.pair; stands = here.whole.stands }) good
 
 some_says : {X : Type 0} (P : X → Type 0) (Q : Type 0) (o : Option X) → ((x : X) → P x → Q) → IsSomeAnd o P → Q
@@ -38,7 +38,7 @@ some_says P Q (Some x) f h = f x h
 good_ends : (proof : Proof) (b : ℕ) → IsGoodBranch proof b → IsParent proof.branches b ⊎ IsClosed proof.lines b
 good_ends proof zero good = good.ends
 good_ends proof (suc b) good =
-    some_says (IsListed proof.terms.nodes proof.branches proof.lines (suc b))
+    some_says (IsInPlace proof.terms.nodes proof.branches proof.lines (suc b))
     (IsParent proof.branches (suc b) ⊎ IsClosed proof.lines (suc b)) (slice_get proof.branches b) (λ it here. here.whole.ends) good
 
 -- where there are no branches but the root

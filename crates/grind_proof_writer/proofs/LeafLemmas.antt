@@ -8,7 +8,7 @@ use Rattle.grind_claims.specs.declared.proof.Branch.{Branch}
 use Rattle.grind_claims.specs.declared.proof.Line.{Line}
 use Rattle.grind_claims.specs.declared.proof.Proof.{Proof}
 use Rattle.grind_proof_kernel.specs.Typing.{IsParent, IsClosed, IsFirst, IsInPair, StandsBefore, StandsBehind}
-use Rattle.grind_proof_writer.specs.Branches.{IsLeaf, IsInPlace}
+use Rattle.grind_proof_writer.specs.Branches.{IsLeaf, IsPlacedSoFar}
 use Rattle.grind_proof_writer.specs.Laws.{LinesKeepGood}
 use Rattle.grind_proof_writer.proofs.ListLemmas.{some_item, some_is, split_some, all_some}
 use Rattle.grind_proof_writer.proofs.ClosingLemmas.{IsElsewhere, closed_stays, closed_before}
@@ -61,7 +61,7 @@ module _ (proof : Proof) (more : List Line) (own : ℕ) (places : ArePlaced proo
   longer = record { terms = proof.terms; branches = proof.branches; lines = proof.lines ++ more }
 
   place_stays : (b : ℕ) (it : Branch) → slice_get proof.branches b ≡ Some it →
-      IsInPlace proof.terms.nodes proof.branches (proof.lines ++ more) (suc b) it
+      IsPlacedSoFar proof.terms.nodes proof.branches (proof.lines ++ more) (suc b) it
   place_stays b it stands =
       let place = place_at proof b it places stands in
       let other : ¬ (it.parent ≡ own) = λ e.
@@ -74,9 +74,9 @@ module _ (proof : Proof) (more : List Line) (own : ℕ) (places : ArePlaced proo
   pub places_stay : ArePlaced longer
   places_stay zero few = tt
   places_stay (suc b) few =
-      let P : Branch → Type 0 = IsInPlace proof.terms.nodes proof.branches proof.lines (suc b) in
+      let P : Branch → Type 0 = IsPlacedSoFar proof.terms.nodes proof.branches proof.lines (suc b) in
       let found = some_item P (slice_get proof.branches b) (places (suc b) few) in
-      some_is (IsInPlace proof.terms.nodes proof.branches (proof.lines ++ more) (suc b)) (slice_get proof.branches b) found.0 found.1
+      some_is (IsPlacedSoFar proof.terms.nodes proof.branches (proof.lines ++ more) (suc b)) (slice_get proof.branches b) found.0 found.1
       (place_stays b found.0 found.1)
 
 -- lines of one branch are elsewhere for another

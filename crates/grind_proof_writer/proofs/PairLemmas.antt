@@ -19,7 +19,7 @@ use Rattle.grind_proof_kernel.specs.Literals.{IsLiteral, AreOpposite}
 use Rattle.grind_proof_kernel.specs.Typing.{IsTypedAs, IsPairOf, IsParent, IsFirst, IsSecond, IsInPair, branch_at, parent_of, begin_of, literal_of}
 use Rattle.grind_proof_kernel.specs.Laws.{Extends, TypedLinesStay}
 use Rattle.grind_proof_writer.specs.Lines.{AreTyped}
-use Rattle.grind_proof_writer.specs.Branches.{IsOpen, IsInPlace, IsChild, IsSplit, with_pair}
+use Rattle.grind_proof_writer.specs.Branches.{IsOpen, IsPlacedSoFar, IsChild, IsSplit, with_pair}
 use Rattle.grind_proof_writer.specs.Laws.{PairKeepsGood}
 use Rattle.grind_proof_writer.proofs.ListLemmas.{some_item, some_is, within_some, behind_first, behind_second, all_some}
 use Rattle.grind_proof_writer.proofs.ClosingLemmas.{IsElsewhere, unclosed_empty}
@@ -67,7 +67,7 @@ begin_low : (proof : Proof) (more : List Branch) (branch : ℕ) → ArePlaced pr
 begin_low proof more zero places few = omega arith
 begin_low proof more (suc b) places few =
     let Low : ℕ → Type 0 = λ after. after ≤ length proof.lines in
-    let P : Branch → Type 0 = IsInPlace proof.terms.nodes proof.branches proof.lines (suc b) in
+    let P : Branch → Type 0 = IsPlacedSoFar proof.terms.nodes proof.branches proof.lines (suc b) in
     let found = some_item P (slice_get proof.branches b) (places (suc b) few) in
     let here : IsSomeAnd (begin_of proof.branches (suc b)) Low =
     subst (λ (o : Option Branch). IsSomeAnd (option_map (λ (it : Branch). it.after) o) Low) (sym found.1)
@@ -91,7 +91,7 @@ elsewhere_above proof branch low high =
 -- no parent of a pair stands behind the branches
 no_parent_above : (proof : Proof) (branch : ℕ) → ArePlaced proof → length proof.branches < branch → IsParent proof.branches branch → ⊥
 no_parent_above proof branch places high (j, (listed, is)) =
-    let P : Branch → Type 0 = IsInPlace proof.terms.nodes proof.branches proof.lines (suc (j + j)) in
+    let P : Branch → Type 0 = IsPlacedSoFar proof.terms.nodes proof.branches proof.lines (suc (j + j)) in
     let found = some_item P (slice_get proof.branches (j + j)) (places (suc (j + j)) (omega (arith, listed))) in
     let first = first_at proof j found.0 places found.1 in
     let above : found.0.parent < j + j + 1 = first.above in
@@ -153,13 +153,13 @@ module _ (proof : Proof) (parent m : ℕ) (one other : Claim) (places : ArePlace
       (elsewhere_above proof branch low high) h in
       absurd (found.1 found.2)
 
-  first_place : IsInPlace proof.terms.nodes all proof.lines (suc (length proof.branches)) first
+  first_place : IsPlacedSoFar proof.terms.nodes all proof.lines (suc (length proof.branches)) first
   first_place = record {
     pair = (m, inl (omega (arith, even), is_first));
     stands = no_line (suc (length proof.branches)) (length proof.lines) (omega arith);
   }
 
-  second_place : IsInPlace proof.terms.nodes all proof.lines (suc (suc (length proof.branches))) second
+  second_place : IsPlacedSoFar proof.terms.nodes all proof.lines (suc (suc (length proof.branches))) second
   second_place =
       let Q : Branch → Type 0 = λ (it : Branch). IsSecond it second in
       let number : suc (length proof.branches) ≡ m + m + 1 = omega (arith, even) in
@@ -176,10 +176,10 @@ module _ (proof : Proof) (parent m : ℕ) (one other : Claim) (places : ArePlace
       }
 
   old_place : (b : ℕ) → suc b ≤ length proof.branches →
-      IsSomeAnd (slice_get all b) (IsInPlace proof.terms.nodes all proof.lines (suc b))
+      IsSomeAnd (slice_get all b) (IsPlacedSoFar proof.terms.nodes all proof.lines (suc b))
   old_place b few =
-      let P : Branch → Type 0 = IsInPlace proof.terms.nodes proof.branches proof.lines (suc b) in
-      let Q : Branch → Type 0 = IsInPlace proof.terms.nodes all proof.lines (suc b) in
+      let P : Branch → Type 0 = IsPlacedSoFar proof.terms.nodes proof.branches proof.lines (suc b) in
+      let Q : Branch → Type 0 = IsPlacedSoFar proof.terms.nodes all proof.lines (suc b) in
       some_and_then P Q (slice_get all b)
       (λ it here. record {
         pair = (here.pair.0, in_pair_keeps proof.terms.nodes proof.branches pair proof.lines here.pair.0 (suc b) it here.pair.1);
@@ -190,15 +190,15 @@ module _ (proof : Proof) (parent m : ℕ) (one other : Claim) (places : ArePlace
   pub places_kept : ArePlaced new
   places_kept zero few = tt
   places_kept (suc b) few =
-      let Q : ℕ → Type 0 = λ n. IsSomeAnd (slice_get all n) (IsInPlace proof.terms.nodes all proof.lines (suc n)) in
+      let Q : ℕ → Type 0 = λ n. IsSomeAnd (slice_get all n) (IsPlacedSoFar proof.terms.nodes all proof.lines (suc n)) in
       elim (cases_lt b (length proof.branches)) [
         | inl old ↦ old_place b (omega (arith, old))
         | inr high ↦ elim (cases_eq b (length proof.branches)) [
-          | inl is ↦ subst Q (sym is) (some_is (IsInPlace proof.terms.nodes all proof.lines (suc (length proof.branches)))
+          | inl is ↦ subst Q (sym is) (some_is (IsPlacedSoFar proof.terms.nodes all proof.lines (suc (length proof.branches)))
               (slice_get all (length proof.branches)) first first_stands first_place)
           | inr further ↦
               let is : b ≡ suc (length proof.branches) = omega (arith, high, further, few, count) in
-              subst Q (sym is) (some_is (IsInPlace proof.terms.nodes all proof.lines (suc (suc (length proof.branches))))
+              subst Q (sym is) (some_is (IsPlacedSoFar proof.terms.nodes all proof.lines (suc (suc (length proof.branches))))
               (slice_get all (suc (length proof.branches))) second second_stands second_place)
         ]
       ]

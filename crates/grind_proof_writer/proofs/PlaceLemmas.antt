@@ -9,7 +9,7 @@ use Rattle.grind_claims.specs.declared.proof.Branch.{Branch}
 use Rattle.grind_claims.specs.declared.proof.Line.{Line}
 use Rattle.grind_claims.specs.declared.proof.Proof.{Proof}
 use Rattle.grind_proof_kernel.specs.Typing.{branch_at, parent_of, begin_of, branch_above, Reaches, IsParent, IsFirst, IsSecond, IsInPair}
-use Rattle.grind_proof_writer.specs.Branches.{IsInPlace, HasPlace}
+use Rattle.grind_proof_writer.specs.Branches.{IsPlacedSoFar, HasPlace}
 use Rattle.grind_proof_writer.specs.Laws.{TellsStays}
 use Rattle.grind_proof_writer.proofs.ListLemmas.{some_item, field_holds_stays}
 
@@ -106,10 +106,10 @@ ArePlaced proof = (b : ℕ) → b ≤ length proof.branches → HasPlace proof b
 
 -- the place of a listed branch
 pub place_at : (proof : Proof) (b : ℕ) (it : Branch) → ArePlaced proof → slice_get proof.branches b ≡ Some it →
-    IsInPlace proof.terms.nodes proof.branches proof.lines (suc b) it
+    IsPlacedSoFar proof.terms.nodes proof.branches proof.lines (suc b) it
 place_at proof b it places stands =
     let within : b < length proof.branches = slice_get_within proof.branches b it stands in
-    let P : Branch → Type 0 = IsInPlace proof.terms.nodes proof.branches proof.lines (suc b) in
+    let P : Branch → Type 0 = IsPlacedSoFar proof.terms.nodes proof.branches proof.lines (suc b) in
     subst (λ (o : Option Branch). IsSomeAnd o P) stands (places (suc b) (omega arith))
 
 -- a branch of odd number is the first of its pair
@@ -203,7 +203,7 @@ even_of_pair proof b k n it count is (inr second) =
 even_count : (proof : Proof) (n : ℕ) → ArePlaced proof → length proof.branches ≡ n → (m : ℕ) × (n ≡ m + m)
 even_count proof zero places count = (0, refl)
 even_count proof (suc b) places count =
-    let P : Branch → Type 0 = IsInPlace proof.terms.nodes proof.branches proof.lines (suc b) in
+    let P : Branch → Type 0 = IsPlacedSoFar proof.terms.nodes proof.branches proof.lines (suc b) in
     let found = some_item P (slice_get proof.branches b) (places (suc b) (omega (arith, count))) in
     even_of_pair proof b found.2.pair.0 (suc b) found.0 count refl found.2.pair.1
 

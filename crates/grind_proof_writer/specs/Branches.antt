@@ -25,7 +25,7 @@ pub record IsOpen (proof : Proof) (branch : ℕ) : Type 0 where
   pub unclosed : ¬ IsClosed proof.lines branch
 
 -- a listed branch is as its place in its pair asks, and its lines stand at the line at which it begins or behind
-pub record IsInPlace (nodes : List Node) (branches : List Branch) (lines : List Line) (branch : ℕ) (it : Branch) : Type 0 where
+pub record IsPlacedSoFar (nodes : List Node) (branches : List Branch) (lines : List Line) (branch : ℕ) (it : Branch) : Type 0 where
   pub pair : (k : ℕ) × IsInPair nodes branches lines k branch it
   pub stands : StandsBehind lines branch it.after
 
@@ -33,7 +33,7 @@ pub record IsInPlace (nodes : List Node) (branches : List Branch) (lines : List 
 abbrev pub HasPlace : Proof → ℕ → Type 0
 HasPlace proof zero = Unit {0}
 HasPlace proof (suc b) =
-    IsSomeAnd (slice_get proof.branches b) (IsInPlace proof.terms.nodes proof.branches proof.lines (suc b))
+    IsSomeAnd (slice_get proof.branches b) (IsPlacedSoFar proof.terms.nodes proof.branches proof.lines (suc b))
 
 -- the proof is good so far: it has the terms of the goal, each of its branches is in its place, and each of its lines is
 -- typed. Only its ends may be missing
