@@ -10,9 +10,7 @@ use grind_differences::differences::{
     are_apart_by_reading, is_difference, is_difference_or_more, is_difference_plus_one,
     is_more_than_difference, is_number, is_poly_difference,
 };
-use grind_differences::equations::{
-    form_of, is_multiple, is_other_than_zero, is_same_poly,
-};
+use grind_differences::equations::{form_of, is_multiple, is_other_than_zero, is_same_poly};
 use grind_linear_forms::{Form, FormRefusal, add_scaled};
 use grind_outside::Memory;
 use grind_polynomials::{Poly, PolyRefusal, add_product};

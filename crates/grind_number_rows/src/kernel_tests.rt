@@ -5,9 +5,9 @@ ghost use Rattle.grind_term_graph.specs.Terms.{sort_at};
 use grind_outside::{List, Memory};
 use grind_proof_kernel::branches::reaches;
 use grind_proof_kernel::claim::is_formed;
-use grind_truth_tables::is_table;
 use grind_proof_kernel::{Branch, Claim};
 use grind_term_graph::{Args, Head, Node, NodeId, SortId, TermRefusal, TermTable};
+use grind_truth_tables::is_table;
 use std::alloc::Global;
 use std::test::Fail;
 

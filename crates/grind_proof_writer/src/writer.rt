@@ -11,9 +11,9 @@ ghost use Rattle.grind_proof_writer.specs.Writing.{IsBegun, CanWrite, IsGoodFor,
 
 use crate::equality::Equality;
 use crate::laws::pair_keeps_good;
-use grind_proof_kernel::literals::opposite;
 use grind_outside::{List, Memory};
 use grind_proof_kernel::laws::{typed_lines_stay, typed_next_line};
+use grind_proof_kernel::literals::opposite;
 use grind_proof_kernel::{Branch, Claim, Line, Proof, Rule, derive};
 use grind_schemes::{Goal, Lemmas};
 use grind_term_graph::NodeId;
