@@ -29,30 +29,45 @@ fn lines_of(alloc: Global, show: NodeId, side: NodeId, size: u32) -> Result<List
     requires { size ≤ 4000000 }
 {
     let mut lines = List::new(alloc);
-    lines.push(line(alloc, 0, Rule::Negated, &[], Claim::Fails(show))?)?;
-    lines.push(line(alloc, 0, Rule::Refl, &[], Claim::Same(side, side))?)?;
+    push(alloc, &mut lines, Rule::Negated, &[], Claim::Fails(show))?;
+    push(alloc, &mut lines, Rule::Refl, &[], Claim::Same(side, side))?;
     for last in 1..size + 1 {
-        lines.push(line(alloc, 0, Rule::Trans, &[last, 1], Claim::Same(side, side))?)?;
+        push(
+            alloc,
+            &mut lines,
+            Rule::Trans,
+            &[last, 1],
+            Claim::Same(side, side),
+        )?;
     }
-    let back = line(alloc, 0, Rule::Back, &[size + 1], Claim::Holds(show))?;
-    lines.push(back)?;
-    let clash = line(alloc, 0, Rule::Clash, &[size + 2, 0], Claim::Absurd)?;
-    lines.push(clash)?;
+    push(
+        alloc,
+        &mut lines,
+        Rule::Back,
+        &[size + 1],
+        Claim::Holds(show),
+    )?;
+    push(
+        alloc,
+        &mut lines,
+        Rule::Clash,
+        &[size + 2, 0],
+        Claim::Absurd,
+    )?;
     Ok(lines)
 }
 
-/// A line of that branch.
-pub fn line(
+fn push(
     alloc: Global,
-    branch: u32,
+    lines: &mut List<Line>,
     rule: Rule,
     from: &[u32],
     claim: Claim,
-) -> Result<Line, Memory> {
+) -> Result<(), Memory> {
     let mut premises = List::new(alloc);
     premises.extend(from)?;
-    Ok(Line {
-        branch,
+    lines.push(Line {
+        branch: 0,
         rule,
         premises,
         claim,
