@@ -107,7 +107,7 @@ FAMILIES = [
     ("`members`: `f(x)`, `h(x)`, joined", "joined", members, [500 << k for k in range(4)]),
     ("`constant`: `g(x, y)`, `h(x, y)`, one `x`", "match", constant, [500 << k for k in range(4)]),
     ("`apart`: `f(x)`, `g(y)`, `h(x, y)`", "match", apart, [125 << k for k in range(4)]),
-    ("`many`: `f0(x)`, `f1(x)`, .. over 50,000 nodes", "match", many, [8 << k for k in range(5)]),
+    ("`many`: `f0(x)`, `f1(x)`, .. over 50,000 nodes", "match", many, [4 << k for k in range(5)]),
 ]
 
 
