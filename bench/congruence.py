@@ -75,6 +75,14 @@ def line(n):
     return names, functions, pairs, ends
 
 
+def broken(n):
+    """A line of n equations between constants, in any order, without the one in the middle: the goal stays open."""
+    names, functions, pairs, ends = chain(n)
+    del pairs[n // 2]
+    random.Random(n).shuffle(pairs)
+    return names, functions, pairs, ends
+
+
 def nested(n):
     """`f` applied 150 times to each of n / 150 constants, which are equal."""
     count = max(n // 150, 2)
@@ -151,6 +159,7 @@ FAMILIES = [
     ("ladder", [625, 1250, 2500, 5000], lambda n: (ladder(n), 1)),
     ("graph", [2000, 4000, 8000, 16000], lambda n: (graph(n), 1)),
     ("line", [2500, 5000, 10000, 20000], lambda n: (line(n), 1)),
+    ("broken", [2500, 5000, 10000, 20000], lambda n: (broken(n), 1)),
     ("nested", [2500, 5000, 10000, 20000], lambda n: (nested(n), 1)),
     ("goals", [500, 1000, 2000, 4000], lambda n: (cycle(5), n)),
 ]

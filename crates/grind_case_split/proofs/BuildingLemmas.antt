@@ -13,7 +13,7 @@ use Rattle.grind_congruence.specs.Congruence.{Congruence, AreCongruent, Fits}
 use Rattle.grind_congruence.specs.Edges.{Leads, Joins, AreClassesOf}
 use Rattle.grind_congruence.specs.Asserted.{IsJoined}
 use Rattle.grind_congruence.proofs.EdgeLemmas.{together-itself, active-left, active-right}
-use Rattle.grind_case_split.specs.Building.{IsFounded, AreFounded, IsBuilt, KeepsTogether, IsAsserted, class_count, IsOneMore, HasRest, IsStepped, AreAsserted, IsActiveBelow, IsAsserting, IsClosure}
+use Rattle.grind_case_split.specs.Building.{IsFounded, AreFounded, HasEnds, IsBuilt, KeepsTogether, IsAsserted, class_count, IsOneMore, HasRest, IsStepped, AreAsserted, IsActiveBelow, IsAsserting, IsClosure}
 
 -- how many lists these members are
 abbrev filled : List ℕ → ℕ
@@ -148,22 +148,22 @@ AreFounded-more nodes given edges edge all one = λ place it stands. elim (place
 ]
 
 -- an equation between two classes makes one more edge
-pub one_more_edge : (nodes : List Node) (given : List Edge) (old new : Congruence) (a b why : ℕ) → IsBuilt nodes given old → a < length nodes →
-    b < length nodes → (AreTogether old.lists a b → ⊥) → IsFounded nodes given old.edges (length old.edges) (record { left = a; right = b; why = why }) →
-    IsJoined old new a b why → Fits new nodes → IsOneMore nodes given old new a b
-one_more_edge nodes given old new a b why built left right apart founded grown fits =
-    let active_a = built.active a left in
-    let active_b = built.active b right in
+pub one_more_edge : (nodes : List Node) (given : List Edge) (old new : Congruence) (edge : Edge) → IsBuilt nodes given old → HasEnds nodes edge →
+    (AreTogether old.lists edge.left edge.right → ⊥) → IsFounded nodes given old.edges (length old.edges) edge →
+    IsJoined old new edge.left edge.right edge.why → Fits new nodes → IsOneMore nodes given old new edge.left edge.right
+one_more_edge nodes given old new edge built ends apart founded grown fits =
+    let active_a = built.active edge.left ends.0 in
+    let active_b = built.active edge.right ends.1 in
     record {
       built = record {
         fits = fits;
         active = λ n within. (grown.active n).1 (built.active n within);
-        founded = subst (AreFounded nodes given) (sym grown.edges)
-            (AreFounded-more nodes given old.edges (record { left = a; right = b; why = why }) built.founded founded);
+        founded = subst (AreFounded nodes given) (sym grown.edges) (AreFounded-more nodes given old.edges edge built.founded founded);
       };
       keeps = record { stays = λ x y t. (grown.together x y).1 (inl t) };
-      asserted = (grown.together a b).1 (inr (inl (together-itself old.lists a active_a, together-itself old.lists b active_b)));
-      fewer = IsJoined-fewer old new a b why grown active_a active_b apart;
+      asserted = (grown.together edge.left edge.right).1
+          (inr (inl (together-itself old.lists edge.left active_a, together-itself old.lists edge.right active_b)));
+      fewer = IsJoined-fewer old new edge.left edge.right edge.why grown active_a active_b apart;
     }
 
 -- what is congruent is joined by the edges that there are

@@ -1,24 +1,22 @@
 -- What a closure of the given pairs decides.
-use Rattle.std.specs.Prelude.{◌≡◌, ℕ, zero, suc, ◌<◌, List, [], ◌∷◌, Option, Some, None, All, Contains, length, map, take, slice_get, ◌↔◌, refl}
+use Rattle.std.specs.Prelude.{◌≡◌, ℕ, zero, suc, ◌<◌, List, [], ◌∷◌, Option, Some, All, Contains, length, map, take, slice_get, ◌↔◌, refl}
 use Rattle.std.specs.List.{AllZip}
-use Rattle.std.specs.Option.{IsSomeAnd, option_map}
+use Rattle.std.specs.Option.{IsSomeAnd}
 use Rattle.std.proofs.Common.{arith, sym, ap, ◌∙◌, subst, inl, inr}
 use Rattle.std.proofs.lemmas.List.{length-take-le}
-use Rattle.std.proofs.lemmas.List.Elements.{All-cons, All-append, All-weaker}
+use Rattle.std.proofs.lemmas.List.Elements.{All-cons, All-weaker}
 use Rattle.std.proofs.lemmas.Option.{slice_get_within, slice_get-get_or}
 use Rattle.grind_term_graph.specs.declared.node.Node.{Node}
 use Rattle.grind_term_graph.specs.Shape.{IsTable}
 use Rattle.grind_term_graph.proofs.Tables.{WellShaped-at}
 use Rattle.grind_schemes.specs.Goals.{GoalData}
 use Rattle.grind_schemes.specs.declared.lemmas.Lemmas.{Lemmas}
-use Rattle.grind_claims.proofs.Growth.{some_and_then}
 use Rattle.grind_claims.specs.declared.claim.Claim.{Claim}
 use Rattle.grind_claims.specs.declared.claim.Claim.TheVariants.{Holds, Fails, Same, Differ, Absurd}
 use Rattle.grind_claims.specs.declared.proof.Line.{Line}
 use Rattle.grind_claims.specs.declared.proof.Proof.{Proof}
 use Rattle.grind_claims.specs.Claims.{claim_at, AreClaimsAt}
 use Rattle.grind_rules.specs.Rules.{IsClash}
-use Rattle.grind_proof_kernel.specs.Typing.{Reaches}
 use Rattle.grind_classes.specs.Classes.{IsActive, AreTogether}
 use Rattle.grind_congruence.specs.declared.edge.Edge.{Edge}
 use Rattle.grind_congruence.specs.Congruence.{Congruence}
@@ -30,16 +28,15 @@ use Rattle.grind_congruence.specs.Exact.{pair_of}
 use Rattle.grind_congruence.proofs.ExactLemmas.{exact_at_rest}
 use Rattle.grind_explain.specs.declared.why.Why.{Why}
 use Rattle.grind_explain.specs.declared.why.Why.TheVariants as why
-use Rattle.grind_proof_writer.specs.Lines.{IsReady, Tells, Appends, EndsWith}
 use Rattle.grind_explain.specs.Explained.{IsReason, HasReasons, AreJoinedWithin}
 use Rattle.grind_case_split.specs.declared.fact.Fact.{Fact}
 use Rattle.grind_case_split.specs.Congruences.{IsGiven, IsNodeOf, FollowsFromGiven, CongruenceEntails}
-use Rattle.grind_case_split.specs.Writing.{IsRooted, Claims}
 use Rattle.grind_case_split.specs.Building.{IsFounded, AreFounded, HasEnds, IsClosure}
-use Rattle.grind_case_split.specs.Given.{IsTold, IsGivenEdge, IsLedger, CoversAll, IsRefuted, NoneRefuted}
+use Rattle.grind_case_split.specs.Given.{IsOfSource, IsTold, IsGivenEdge, IsLedger, CoversAll, IsRefuted, NoneRefuted}
 use Rattle.grind_case_split.proofs.BuildingLemmas.{All-contains}
-use Rattle.grind_case_split.proofs.LineLemmas.{rooted_terms, rooted_has_terms}
+use Rattle.grind_case_split.proofs.LineLemmas.{rooted_terms}
 use Rattle.grind_case_split.proofs.FactLemmas.{fact_denied}
+use Rattle.grind_case_split.proofs.GivenLemmas.{sources_pairs, sources_ends}
 
 -- what is derivable from pairs that are derivable from others is derivable from these
 module _ (nodes : List Node) (pairs others : List (ℕ × ℕ)) (Among Within : ℕ → Type 0)
@@ -156,11 +153,10 @@ pairs_given goal (edge ∷ edges) all =
     (pairs_given goal edges (λ i e low. all (suc i) e (omega arith)))
 
 -- in a closure of the given pairs two nodes are together exactly where it follows from these that they are equal
-pub closure_decides : (lemmas : Lemmas) (goal : GoalData) (proof : Proof) (whys : List Why) (edges : List Edge) (closure : Congruence) →
-    IsTable [] goal.terms.nodes → AreClassesOf closure.lists closure.edges → IsLedger lemmas goal proof whys edges → CoversAll goal edges →
-    IsClosure goal.terms.nodes edges closure → (a b : ℕ) → IsNodeOf goal a → IsNodeOf goal b →
+pub closure_decides : (goal : GoalData) (edges : List Edge) (closure : Congruence) → IsTable [] goal.terms.nodes →
+    AreClassesOf closure.lists closure.edges → All (IsOfSource goal) edges → CoversAll goal edges → IsClosure goal.terms.nodes edges closure → (a b : ℕ) → IsNodeOf goal a → IsNodeOf goal b →
     AreTogether closure.lists a b ↔ FollowsFromGiven goal a b
-closure_decides lemmas goal proof whys edges closure table tied ledger covers is a b here there = (down, up)
+closure_decides goal edges closure table tied sources covers is a b here there = (down, up)
   where
     nodes : List Node
     nodes = goal.terms.nodes
@@ -175,7 +171,7 @@ closure_decides lemmas goal proof whys edges closure table tied ledger covers is
         let found = pair_place closure.edges x y has in
         let edge : Edge = found.1 in
         let derived : Derivable goal.terms.nodes (map pair_of edges) (IsNodeOf goal) edge.left edge.right =
-        founded_derivable goal.terms.nodes edges closure.edges table ledger.ends is.built.founded (suc found.0) found.0 edge (omega arith) found.2 in
+        founded_derivable goal.terms.nodes edges closure.edges table (sources_ends goal edges sources) is.built.founded (suc found.0) found.0 edge (omega arith) found.2 in
         subst (λ (p : ℕ). Derivable goal.terms.nodes (map pair_of edges) (IsNodeOf goal) p y) found.3
         (subst (λ (q : ℕ). Derivable goal.terms.nodes (map pair_of edges) (IsNodeOf goal) edge.left q) found.4 derived)
 
@@ -183,7 +179,7 @@ closure_decides lemmas goal proof whys edges closure table tied ledger covers is
     down together =
         let derived = (exact a b (is.built.active a here) (is.built.active b there)).0 together in (
           map pair_of edges,
-          pairs_given goal edges ledger.pairs,
+          pairs_given goal edges (sources_pairs goal edges sources),
           cut goal.terms.nodes (map pair_of closure.edges) (map pair_of edges) (IsActive closure.lists) (IsNodeOf goal) from_edge
               (λ x act. is.built.fits.within x act) derived,
         )
@@ -205,41 +201,24 @@ closure_decides lemmas goal proof whys edges closure table tied ledger covers is
         (from_pair follows.0 follows.1) is.built.active follows.2)
 
 -- a refuted fact shows that the goal follows
-pub refuted_entails : (lemmas : Lemmas) (goal : GoalData) (proof : Proof) (whys : List Why) (edges : List Edge) (closure : Congruence) (fact : Fact) →
-    IsTable [] goal.terms.nodes → AreClassesOf closure.lists closure.edges → IsLedger lemmas goal proof whys edges → CoversAll goal edges →
-    IsClosure goal.terms.nodes edges closure → IsRefuted goal closure fact → CongruenceEntails goal
-refuted_entails lemmas goal proof whys edges closure fact table tied ledger covers is refuted =
+pub refuted_entails : (goal : GoalData) (edges : List Edge) (closure : Congruence) (fact : Fact) → IsTable [] goal.terms.nodes →
+    AreClassesOf closure.lists closure.edges → All (IsOfSource goal) edges → CoversAll goal edges → IsClosure goal.terms.nodes edges closure → IsRefuted goal closure fact → CongruenceEntails goal
+refuted_entails goal edges closure fact table tied sources covers is refuted =
     let a : ℕ = fact.reading.left in
     let b : ℕ = fact.reading.right in (
       a,
       b,
       fact_denied goal fact refuted.is refuted.differs,
-      (closure_decides lemmas goal proof whys edges closure table tied ledger covers is a b refuted.is.sorted.left refuted.is.sorted.right).0
+      (closure_decides goal edges closure table tied sources covers is a b refuted.is.sorted.left refuted.is.sorted.right).0
           refuted.together,
     )
 
 -- where none is refuted it does not
-pub none_refuted : (lemmas : Lemmas) (goal : GoalData) (proof : Proof) (whys : List Why) (edges : List Edge) (closure : Congruence) →
-    IsTable [] goal.terms.nodes → AreClassesOf closure.lists closure.edges → IsLedger lemmas goal proof whys edges → CoversAll goal edges →
-    IsClosure goal.terms.nodes edges closure → NoneRefuted goal closure → CongruenceEntails goal → ⊥
-none_refuted lemmas goal proof whys edges closure table tied ledger covers is none (a, b, denied, follows) =
+pub none_refuted : (goal : GoalData) (edges : List Edge) (closure : Congruence) → IsTable [] goal.terms.nodes →
+    AreClassesOf closure.lists closure.edges → All (IsOfSource goal) edges → CoversAll goal edges → IsClosure goal.terms.nodes edges closure → NoneRefuted goal closure → CongruenceEntails goal → ⊥
+none_refuted goal edges closure table tied sources covers is none (a, b, denied, follows) =
     let both = derivable_among follows.2 in
-    none.each a b denied ((closure_decides lemmas goal proof whys edges closure table tied ledger covers is a b both.0 both.1).1 follows)
-
--- a line that claims something stands in the root and claims it
-line_claims : (lines : List Line) (n : ℕ) (claim : Claim) → All (λ (line : Line). line.branch ≡ 0) lines → claim_at lines n ≡ Some claim →
-    IsSomeAnd (slice_get lines n) (λ (line : Line). (line.branch ≡ 0) × (line.claim ≡ claim))
-line_claims [] n claim root e = absurd cc
-line_claims (line ∷ lines) zero claim root e = let is : line.claim ≡ claim = cc in (root 0 line (omega arith), is)
-line_claims (line ∷ lines) (suc n) claim root e = line_claims lines n claim (λ k d below. root (suc k) d (omega arith)) e
-
--- so it tells it in the root
-tells_claimed : (lemmas : Lemmas) (goal : GoalData) (proof : Proof) (line a b : ℕ) → IsRooted lemmas goal proof → Claims proof line (Same a b) →
-    Tells proof 0 line (Same a b)
-tells_claimed lemmas goal proof line a b rooted claims =
-    some_and_then (λ (it : Line). (it.branch ≡ 0) × (it.claim ≡ Same a b))
-    (λ (it : Line). Reaches proof.branches it.branch 0 × (it.claim ≡ Same a b)) (slice_get proof.lines line)
-    (λ it both. ((0, omega arith, ap Some (sym both.0)), both.1)) (line_claims proof.lines line (Same a b) rooted.root claims)
+    none.each a b denied ((closure_decides goal edges closure table tied sources covers is a b both.0 both.1).1 follows)
 
 some_and_of : {X : Type 0} (P : X → Type 0) (o : Option X) (x : X) → o ≡ Some x → P x → IsSomeAnd o P
 some_and_of {X = X} P o x e h = subst (λ (it : Option X). IsSomeAnd it P) (sym e) h
@@ -254,36 +233,11 @@ reasons lemmas goal proof whys pairs edges count ledger founded = λ place edge 
     by place edge (inl has) =
         let told = All-contains (IsTold proof whys) pairs edge ledger.told has in
         some_and_of (IsReason proof 0 edges place edge) (slice_get whys edge.why) (why.Line told.line) told.why
-        (tells_claimed lemmas goal proof told.line edge.left edge.right ledger.rooted told.claims)
+        told.tells
     by place edge (inr is) =
         let first : slice_get whys edge.why ≡ Some why.Congruence = ap (slice_get whys) is.0 ∙ ledger.congruence in
         some_and_of (IsReason proof 0 edges place edge) (slice_get whys edge.why) why.Congruence first
         (subst (λ (all : List Node). AreJoinedWithin all edges place edge.left edge.right) (sym (rooted_terms lemmas goal proof ledger.rooted)) is.1)
-
--- a rooted proof takes lines in the root
-pub rooted_ready : (lemmas : Lemmas) (goal : GoalData) (proof : Proof) → IsRooted lemmas goal proof → IsReady lemmas goal proof 0
-rooted_ready lemmas goal proof rooted =
-    record { terms = rooted_has_terms lemmas goal proof rooted; stands = omega arith; typed = rooted.typed }
-
--- and stays rooted
-pub rooted_appends : (lemmas : Lemmas) (goal : GoalData) (old new : Proof) → IsRooted lemmas goal old → Appends lemmas goal old new 0 →
-    IsRooted lemmas goal new
-rooted_appends lemmas goal old new rooted grown = record {
-  terms = grown.terms ∙ rooted.terms;
-  branches = grown.branches ∙ rooted.branches;
-  root = subst (λ (lines : List Line). All (λ (line : Line). line.branch ≡ 0) lines) (sym grown.lines.1)
-      (All-append (λ (line : Line). line.branch ≡ 0) old.lines grown.lines.0 rooted.root grown.lines.2);
-  typed = grown.typed;
-}
-
-claim_of_some : (line : Option Line) (claim : Claim) → IsSomeAnd line (λ (it : Line). (it.branch ≡ 0) × (it.claim ≡ claim)) →
-    option_map (λ (it : Line). it.claim) line ≡ Some claim
-claim_of_some None claim h = absurd h
-claim_of_some (Some line) claim h = ap Some h.1
-
--- what the last line claims
-pub ends_claims : (proof : Proof) (number a b : ℕ) → EndsWith proof 0 number (Same a b) → Claims proof number (Same a b)
-ends_claims proof number a b h = claim_of_some (slice_get proof.lines number) (Same a b) h.1
 
 -- a formula that holds and fails, and two terms that are equal and different
 pub opposed_clash : (nodes : List Node) (lines : List Line) (first second n : ℕ) → claim_at lines first ≡ Some (Holds n) →

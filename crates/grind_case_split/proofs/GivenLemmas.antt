@@ -1,5 +1,5 @@
 -- The pairs that a goal gives and denies, source by source.
-use Rattle.std.specs.Prelude.{◌≡◌, ℕ, suc, ◌+◌, ◌<◌, Bool, true, false, List, [], ◌∷◌, ◌++◌, Some, Contains, length, slice_get, refl}
+use Rattle.std.specs.Prelude.{◌≡◌, ℕ, suc, ◌+◌, ◌<◌, Bool, true, false, List, [], ◌∷◌, ◌++◌, Some, All, Contains, length, slice_get, refl}
 use Rattle.std.proofs.Common.{arith, sym, ap, ◌∙◌, subst, inl, inr}
 use Rattle.std.proofs.lemmas.Bool.{cases_eq}
 use Rattle.std.proofs.lemmas.Option.{slice_get_within}
@@ -8,23 +8,15 @@ use Rattle.grind_term_graph.specs.declared.head.Head.TheVariants as head
 use Rattle.grind_term_graph.specs.declared.node.Node.{Node}
 use Rattle.grind_term_graph.specs.Shape.{IsTable}
 use Rattle.grind_schemes.specs.Goals.{GoalData, IsGoal}
-use Rattle.grind_schemes.specs.declared.lemmas.Lemmas.{Lemmas}
-use Rattle.grind_claims.specs.declared.claim.Claim.TheVariants.{Same}
-use Rattle.grind_claims.specs.declared.proof.Proof.{Proof}
 use Rattle.grind_rules.specs.Rules.{IsEquation}
-use Rattle.grind_claims.proofs.Growth.{item_stays}
 use Rattle.grind_classes.specs.Classes.{AreTogether}
 use Rattle.grind_congruence.specs.declared.edge.Edge.{Edge}
 use Rattle.grind_congruence.specs.Congruence.{Congruence}
-use Rattle.grind_congruence.proofs.EdgeLemmas.{slice_get-last}
-use Rattle.grind_explain.specs.declared.why.Why.{Why}
-use Rattle.grind_explain.specs.declared.why.Why.TheVariants as why
 use Rattle.grind_case_split.specs.declared.fact.Fact.{Fact}
-use Rattle.grind_case_split.specs.Congruences.{IsNegation}
-use Rattle.grind_case_split.specs.Facts.{IsReadAs, IsSaid, IsFact, equates, sides_claim}
-use Rattle.grind_case_split.specs.Writing.{IsWritten, ClaimsStay}
+use Rattle.grind_case_split.specs.Congruences.{IsNegation, IsGiven}
+use Rattle.grind_case_split.specs.Facts.{IsReadAs, IsSaid, IsFact, equates}
 use Rattle.grind_case_split.specs.Building.{HasEnds}
-use Rattle.grind_case_split.specs.Given.{IsTold, IsGivenEdge, IsLedger, HasPair, KeepsPairs, Covers, CoversBelow, CoversAll, IsRefuted, HoldsOut, HoldsOutBelow, NoneRefuted}
+use Rattle.grind_case_split.specs.Given.{IsOfSource, IsGivenEdge, HasPair, KeepsPairs, Covers, CoversBelow, CoversAll, IsRefuted, HoldsOut, HoldsOutBelow, NoneRefuted}
 use Rattle.grind_case_split.proofs.LawLemmas.{some_item}
 use Rattle.grind_case_split.proofs.FactLemmas.{given_fact, denied_fact, fact_given}
 
@@ -156,7 +148,7 @@ CoversBelow-step goal old new k h keeps one = record {
   ];
 }
 
-source_within : (goal : GoalData) (k : ℕ) (holds : Bool) (n : ℕ) → IsSaid goal k holds n → k < length goal.hyps + 1
+pub source_within : (goal : GoalData) (k : ℕ) (holds : Bool) (n : ℕ) → IsSaid goal k holds n → k < length goal.hyps + 1
 source_within goal k true n said = let within : k < length goal.hyps = slice_get_within goal.hyps k n said in omega (arith, within)
 source_within goal k false n said = omega (arith, said.0)
 
@@ -172,34 +164,35 @@ CoversAll-end goal given table keeps h = record {
       record { edge = pair.edge; among = pair.among; left = pair.left ∙ found.left; right = pair.right ∙ found.right };
 }
 
--- an edge that is told is told by more lines and reasons
-IsTold-stays : (old new : Proof) (whys more : List Why) (edge : Edge) → ClaimsStay old new → IsTold old whys edge → IsTold new (whys ++ more) edge
-IsTold-stays old new whys more edge stay h = record {
-  line = h.line;
-  why = item_stays whys more edge.why (why.Line h.line) h.why;
-  claims = stay h.line (Same edge.left edge.right) h.claims;
-}
+-- the pair of an edge that a source gives is given, and its ends are nodes
+source_pair : (goal : GoalData) (edge : Edge) → IsOfSource goal edge → IsGivenEdge goal edge
+source_pair goal edge h =
+    subst (λ (a : ℕ). IsGiven goal a edge.right) h.left
+    (subst (λ (b : ℕ). IsGiven goal h.fact.reading.left b) h.right (fact_given goal h.fact h.is h.equates))
 
--- one more edge of a fact
-pub IsLedger-more : (lemmas : Lemmas) (goal : GoalData) (old new : Proof) (whys : List Why) (given : List Edge) (fact : Fact) (line : ℕ) →
-    IsLedger lemmas goal old whys given → IsFact goal fact → equates fact ≡ true →
-    IsWritten lemmas goal old new line (sides_claim (equates fact) fact.reading.left fact.reading.right) →
-    IsLedger lemmas goal new (whys ++ why.Line line ∷ [])
-    (given ++ record { left = fact.reading.left; right = fact.reading.right; why = length whys } ∷ [])
-IsLedger-more lemmas goal old new whys given fact line h is equal written =
-    let edge : Edge = record { left = fact.reading.left; right = fact.reading.right; why = length whys } in
-    let claim : sides_claim (equates fact) fact.reading.left fact.reading.right ≡ Same fact.reading.left fact.reading.right =
-    ap (λ (same : Bool). sides_claim same fact.reading.left fact.reading.right) equal in
-    record {
-      rooted = written.rooted;
-      congruence = item_stays whys (why.Line line ∷ []) 0 why.Congruence h.congruence;
-      told = All-push (IsTold new (whys ++ why.Line line ∷ [])) given edge
-          (All-weaker (IsTold old whys) (IsTold new (whys ++ why.Line line ∷ []))
-          (λ it told. IsTold-stays old new whys (why.Line line ∷ []) it written.stay told) given h.told)
-          (record { line = line; why = slice_get-last whys (why.Line line); claims = written.claims ∙ ap Some claim });
-      pairs = All-push (IsGivenEdge goal) given edge h.pairs (fact_given goal fact is equal);
-      ends = All-push (HasEnds goal.terms.nodes) given edge h.ends (is.sorted.left, is.sorted.right);
-    }
+source_ends : (goal : GoalData) (edge : Edge) → IsOfSource goal edge → HasEnds goal.terms.nodes edge
+source_ends goal edge h = (
+  subst (λ (a : ℕ). a < length goal.terms.nodes) h.left h.is.sorted.left,
+  subst (λ (b : ℕ). b < length goal.terms.nodes) h.right h.is.sorted.right,
+)
+
+pub sources_pairs : (goal : GoalData) (given : List Edge) → All (IsOfSource goal) given → All (IsGivenEdge goal) given
+sources_pairs goal given h = All-weaker (IsOfSource goal) (IsGivenEdge goal) (λ edge is. source_pair goal edge is) given h
+
+pub sources_ends : (goal : GoalData) (given : List Edge) → All (IsOfSource goal) given → All (HasEnds goal.terms.nodes) given
+sources_ends goal given h = All-weaker (IsOfSource goal) (HasEnds goal.terms.nodes) (λ edge is. source_ends goal edge is) given h
+
+-- no edge, and one more edge of a source
+pub sources_none : (goal : GoalData) (given : List Edge) → given ≡ [] → All (IsOfSource goal) given
+sources_none goal given none =
+    subst (λ (edges : List Edge). All (IsOfSource goal) edges) (sym none) (λ k edge below. absurd (omega (arith, below)))
+
+pub sources_more : (goal : GoalData) (given : List Edge) (fact : Fact) (number : ℕ) → All (IsOfSource goal) given → IsFact goal fact →
+    equates fact ≡ true → number ≡ fact.source + 1 →
+    All (IsOfSource goal) (given ++ record { left = fact.reading.left; right = fact.reading.right; why = number } ∷ [])
+sources_more goal given fact number h is equal next =
+    All-push (IsOfSource goal) given (record { left = fact.reading.left; right = fact.reading.right; why = number }) h
+    (record { fact = fact; is = is; equates = equal; number = next; left = refl; right = refl })
 
 pub KeepsPairs-more : (given : List Edge) (edge : Edge) → KeepsPairs given (given ++ edge ∷ [])
 KeepsPairs-more given edge = record {

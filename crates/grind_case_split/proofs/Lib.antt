@@ -4,4 +4,5 @@ pub mod LineLemmas
 pub mod TableLemmas
 pub mod BuildingLemmas
 pub mod GivenLemmas
+pub mod ReasonLemmas
 pub mod DecidingLemmas

@@ -1,5 +1,5 @@
--- What is kept while the given pairs of a goal are written down, and which facts a closure refutes.
-use Rattle.std.specs.Prelude.{◌≡◌, ℕ, ◌<◌, true, false, List, Some, All, Contains, slice_get}
+-- What is kept while the given pairs of a goal are found and written down, and which facts a closure refutes.
+use Rattle.std.specs.Prelude.{◌≡◌, ℕ, ◌+◌, ◌<◌, true, false, List, Some, All, Contains, length, slice_get}
 use Rattle.grind_schemes.specs.Goals.{GoalData}
 use Rattle.grind_schemes.specs.declared.lemmas.Lemmas.{Lemmas}
 use Rattle.grind_claims.specs.declared.claim.Claim.TheVariants.{Same}
@@ -12,14 +12,46 @@ use Rattle.grind_explain.specs.declared.why.Why.TheVariants as why
 use Rattle.grind_case_split.specs.declared.fact.Fact.{Fact}
 use Rattle.grind_case_split.specs.Congruences.{IsGiven, IsDenied}
 use Rattle.grind_case_split.specs.Facts.{IsFact, equates}
-use Rattle.grind_case_split.specs.Writing.{IsRooted, Claims}
+use Rattle.grind_proof_writer.specs.Lines.{Tells}
+use Rattle.grind_case_split.specs.Writing.{IsRooted}
 use Rattle.grind_case_split.specs.Building.{HasEnds}
+
+-- a source of the goal says that the ends of the edge are equal, and the edge's number is the one after the source's
+pub record IsOfSource (goal : GoalData) (edge : Edge) : Type 0 where
+  pub fact : Fact
+  pub is : IsFact goal fact
+  pub equates : equates fact ≡ true
+  pub number : edge.why ≡ fact.source + 1
+  pub left : fact.reading.left ≡ edge.left
+  pub right : fact.reading.right ≡ edge.right
+
+-- the reason is a line of the root that claims that the terms of the fact are equal
+pub record IsLineOf (proof : Proof) (reason : Why) (fact : Fact) : Type 0 where
+  pub line : ℕ
+  pub is : reason ≡ why.Line line
+  pub tells : Tells proof 0 line (Same fact.reading.left fact.reading.right)
+
+-- where the source says that two terms are equal, the reason is a line that claims so
+pub record IsReasonOf (goal : GoalData) (proof : Proof) (source : ℕ) (reason : Why) : Type 0 where
+  pub each : (fact : Fact) → IsFact goal fact → fact.source ≡ source → equates fact ≡ true → IsLineOf proof reason fact
+
+-- such a reason stands at the number after the source's
+pub record HasReason (goal : GoalData) (proof : Proof) (whys : List Why) (source : ℕ) : Type 0 where
+  pub reason : Why
+  pub stands : slice_get whys (source + 1) ≡ Some reason
+  pub is : IsReasonOf goal proof source reason
+
+-- it does for each source before the bound, and the number 0 is for congruences
+pub record AreWritten (goal : GoalData) (proof : Proof) (whys : List Why) (bound : ℕ) : Type 0 where
+  pub congruence : slice_get whys 0 ≡ Some why.Congruence
+  pub count : length whys ≡ bound + 1
+  pub each : (source : ℕ) → source < bound → HasReason goal proof whys source
 
 -- the line that is written for the number of the edge claims that its ends are equal
 pub record IsTold (proof : Proof) (whys : List Why) (edge : Edge) : Type 0 where
   pub line : ℕ
   pub why : slice_get whys edge.why ≡ Some (why.Line line)
-  pub claims : Claims proof line (Same edge.left edge.right)
+  pub tells : Tells proof 0 line (Same edge.left edge.right)
 
 -- the goal gives the pair of the edge
 abbrev pub IsGivenEdge : GoalData → Edge → Type 0

@@ -42,19 +42,15 @@ fn join(
     terms: &TermTable,
     _given: &[Edge],
     closure: &mut Closure,
-    a: NodeId,
-    b: NodeId,
-    why: u32,
+    edge: &Edge,
 ) -> Result<(), Memory>
     requires built { IsBuilt terms.now.nodes _given.now closure.old }
-    requires left { a < length terms.now.nodes }
-    requires right { b < length terms.now.nodes }
-    requires apart { ¬ AreTogether closure.old.lists a b }
-    requires founded { IsFounded terms.now.nodes _given.now closure.old.edges (length closure.old.edges)
-        (record { left = a; right = b; why = why }) }
-    ensures { OnOk result (IsOneMore terms.now.nodes _given.now closure.old closure.new a b) }
+    requires ends { HasEnds terms.now.nodes edge.now }
+    requires apart { ¬ AreTogether closure.old.lists edge.now.left edge.now.right }
+    requires founded { IsFounded terms.now.nodes _given.now closure.old.edges (length closure.old.edges) edge.now }
+    ensures { OnOk result (IsOneMore terms.now.nodes _given.now closure.old closure.new edge.now.left edge.now.right) }
 {
-    closure.assert_same(alloc, terms, a, b, why)?;
+    closure.assert_same(alloc, terms, edge.left, edge.right, edge.why)?;
     Ok(())
 }
 
@@ -76,9 +72,7 @@ fn assert_given(
     if closure.classes().same(edge.left, edge.right) {
         return Ok(());
     }
-    join(
-        alloc, terms, given, closure, edge.left, edge.right, edge.why,
-    )?;
+    join(alloc, terms, given, closure, edge)?;
     Ok(())
 }
 
@@ -116,7 +110,12 @@ fn join_found(
     ensures { OnOk result (IsOneMore terms.now.nodes given.now closure.old closure.new found.left found.right) }
 {
     let _classes = closure.classes();
-    join(alloc, terms, given, closure, found.left, found.right, 0)?;
+    let edge = Edge {
+        left: found.left,
+        right: found.right,
+        why: 0,
+    };
+    join(alloc, terms, given, closure, &edge)?;
     Ok(())
 }
 

@@ -1,22 +1,53 @@
 //! The equations that a goal gives.
-ghost use Rattle.std.specs.Prelude.{◌≡◌, ◌∷◌, ◌<◌, ℕ, [], All, IfOk, length};
+ghost use Rattle.std.specs.Prelude.{◌≡◌, ◌<◌, ℕ, All, IfOk, length};
 ghost use Rattle.grind_classes.specs.Classes.{IsActive};
 ghost use Rattle.grind_congruence.specs.Congruence.{Fits};
-ghost use Rattle.grind_explain.specs.declared.why.Why.TheVariants.{Congruence};
 ghost use Rattle.grind_proof_writer.specs.Lines.{IsReady};
 ghost use Rattle.grind_explain.specs.Explained.{HasReasons};
 ghost use Rattle.grind_case_split.specs.Building.{HasEnds, IsClosure};
-ghost use Rattle.grind_case_split.specs.Given.{IsLedger, CoversAll};
+ghost use Rattle.grind_case_split.specs.Given.{IsOfSource, IsLedger, CoversAll};
 
 use crate::building::closure_of;
-use crate::closing::empty_proof;
-use crate::given::write_all;
+use crate::given::given_by;
+use crate::reasons::{Written, write_down};
 use grind_congruence::{Closure, Edge};
 use grind_explain::Why;
 use grind_outside::{List, Memory};
 use grind_proof_kernel::Proof;
+use grind_proof_writer::Writer;
 use grind_schemes::{Goal, Lemmas};
 use std::alloc::Global;
+
+// The equations that a goal gives, as edges that have the numbers of their sources, and what they come to. Nothing is
+// written yet.
+#[derive(Drop)]
+pub(crate) struct Known {
+    // The equations.
+    pub(crate) given: List<Edge>,
+    // Their closure under congruence, over all terms of the goal.
+    pub(crate) closure: Closure,
+}
+
+// The equations that a goal gives, and their closure.
+pub(crate) fn known_of(alloc: Global, goal: &Goal) -> Result<Known, Memory>
+    ensures sources { IfOk result (λ it. All (IsOfSource goal.now) it.given) }
+    ensures covers { IfOk result (λ it. CoversAll goal.now it.given) }
+    ensures closure { IfOk result (λ it. IsClosure goal.now.terms.nodes it.given it.closure) }
+    ensures active { IfOk result (λ it. (n : ℕ) → n < length goal.now.terms.nodes → IsActive it.closure.lists n) }
+{
+    let given = given_by(alloc, goal)?;
+    let closure = closed(alloc, goal, &given)?;
+    Ok(Known { given, closure })
+}
+
+// The closure of given equations over all terms of the goal.
+fn closed(alloc: Global, goal: &Goal, given: &List<Edge>) -> Result<Closure, Memory>
+    requires { All (HasEnds goal.now.terms.nodes) given.now }
+    ensures { IfOk result (λ closure. IsClosure goal.now.terms.nodes given.now closure) }
+{
+    let closure = closure_of(alloc, goal.terms(), given.as_slice())?;
+    Ok(closure)
+}
 
 /// What the equations that a goal gives come to.
 #[derive(Drop)]
@@ -47,33 +78,18 @@ pub fn equations_of(alloc: Global, lemmas: &Lemmas, goal: &Goal) -> Result<Equat
     ensures ready { IfOk result (λ it. IsReady lemmas.now goal.now it.proof 0) }
     ensures reasons { IfOk result (λ it. (count : ℕ) → HasReasons it.proof 0 it.closure.edges it.whys count) }
 {
-    let mut proof = empty_proof(alloc, lemmas, goal)?;
-    let mut whys = first_whys(alloc)?;
-    let mut given = List::new(alloc);
-    write_all(alloc, lemmas, goal, &mut proof, &mut whys, &mut given)?;
-    let closure = closed(alloc, goal, &given)?;
+    let writer = Writer {
+        alloc,
+        lemmas,
+        goal,
+        branch: 0,
+    };
+    let Known { given, closure } = known_of(alloc, goal)?;
+    let Written { proof, whys } = write_down(&writer, &given)?;
     Ok(Equations {
         proof,
         whys,
         given,
         closure,
     })
-}
-
-// The reasons before any pair is written: the number 0 is for congruences.
-fn first_whys(alloc: Global) -> Result<List<Why>, Memory>
-    ensures { IfOk result (λ whys. whys ≡ Congruence ∷ []) }
-{
-    let mut whys = List::new(alloc);
-    whys.push(Why::Congruence)?;
-    Ok(whys)
-}
-
-// The closure of given equations over all terms of the goal.
-fn closed(alloc: Global, goal: &Goal, given: &List<Edge>) -> Result<Closure, Memory>
-    requires { All (HasEnds goal.now.terms.nodes) given.now }
-    ensures { IfOk result (λ closure. IsClosure goal.now.terms.nodes given.now closure) }
-{
-    let closure = closure_of(alloc, goal.terms(), given.as_slice())?;
-    Ok(closure)
 }

@@ -1,15 +1,12 @@
-//! The pairs that a goal gives, written down.
-ghost use Rattle.std.specs.Prelude.{◌≡◌, ◌<◌, ◌≤◌, ℕ, true, length, OnOk};
+//! The pairs that a goal gives.
+ghost use Rattle.std.specs.Prelude.{◌≡◌, ◌+◌, ◌≤◌, ℕ, true, length, All, IfOk, OnOk};
 ghost use Rattle.grind_case_split.specs.Facts.{IsFact, equates};
-ghost use Rattle.grind_case_split.specs.Given.{IsLedger, HasPair, KeepsPairs, Covers, CoversAll};
+ghost use Rattle.grind_case_split.specs.Given.{IsOfSource, HasPair, KeepsPairs, Covers, CoversAll};
 
 use crate::fact::{Fact, fact_at};
-use crate::lines::fact_line;
 use grind_congruence::Edge;
-use grind_explain::Why;
 use grind_outside::{List, Memory};
-use grind_proof_kernel::Proof;
-use grind_schemes::{Goal, Lemmas};
+use grind_schemes::Goal;
 use std::alloc::Global;
 
 // Whether a fact says that its terms are equal.
@@ -23,27 +20,27 @@ pub(crate) fn is_equal(fact: &Fact) -> bool
     !plain
 }
 
-// Writes down the pair of a fact that says that its terms are equal.
-fn write_pair(
-    alloc: Global,
-    lemmas: &Lemmas,
-    goal: &Goal,
-    proof: &mut Proof,
-    whys: &mut List<Why>,
-    given: &mut List<Edge>,
-    fact: &Fact,
-) -> Result<(), Memory>
-    requires ledger { IsLedger lemmas.now goal.now proof.old whys.old given.old }
-    requires fact { IsFact goal.now fact.now }
+// The next number.
+fn next_number(k: u32) -> Result<u32, Memory>
+    ensures { IfOk result (λ n. n ≡ k + 1) }
+{
+    let Some(n) = k.checked_add(1) else {
+        return Err(Memory);
+    };
+    Ok(n)
+}
+
+// Puts the pair of a fact that says that its terms are equal after the others.
+fn push_pair(_goal: &Goal, given: &mut List<Edge>, fact: &Fact) -> Result<(), Memory>
+    requires sources { All (IsOfSource _goal.now) given.old }
+    requires fact { IsFact _goal.now fact.now }
     requires equal { equates fact.now ≡ true }
-    ensures ledger { OnOk result (IsLedger lemmas.now goal.now proof.new whys.new given.new) }
+    ensures sources { OnOk result (All (IsOfSource _goal.now) given.new) }
     ensures keeps { OnOk result (KeepsPairs given.old given.new) }
     ensures pair { OnOk result (HasPair given.new fact.now.reading.left fact.now.reading.right) }
 {
     let reading = fact.reading;
-    let line = fact_line(alloc, lemmas, goal, proof, fact)?;
-    let why = whys.len() as u32;
-    whys.push(Why::Line(line))?;
+    let why = next_number(fact.source)?;
     given.push(Edge {
         left: reading.left,
         right: reading.right,
@@ -52,19 +49,11 @@ fn write_pair(
     Ok(())
 }
 
-// Writes down the pair that a source gives, if it does.
-fn write_source(
-    alloc: Global,
-    lemmas: &Lemmas,
-    goal: &Goal,
-    proof: &mut Proof,
-    whys: &mut List<Why>,
-    given: &mut List<Edge>,
-    k: u32,
-) -> Result<(), Memory>
-    requires ledger { IsLedger lemmas.now goal.now proof.old whys.old given.old }
+// Puts the pair that a source gives, if it does, after the others.
+fn push_source(goal: &Goal, given: &mut List<Edge>, k: u32) -> Result<(), Memory>
+    requires sources { All (IsOfSource goal.now) given.old }
     requires source { k ≤ length goal.now.hyps }
-    ensures ledger { OnOk result (IsLedger lemmas.now goal.now proof.new whys.new given.new) }
+    ensures sources { OnOk result (All (IsOfSource goal.now) given.new) }
     ensures keeps { OnOk result (KeepsPairs given.old given.new) }
     ensures covers { OnOk result (Covers goal.now given.new k) }
 {
@@ -74,29 +63,22 @@ fn write_source(
     if !is_equal(&fact) {
         return Ok(());
     }
-    write_pair(alloc, lemmas, goal, proof, whys, given, &fact)?;
+    push_pair(goal, given, &fact)?;
     Ok(())
 }
 
-// Writes down all pairs that the goal gives.
-pub(crate) fn write_all(
-    alloc: Global,
-    lemmas: &Lemmas,
-    goal: &Goal,
-    proof: &mut Proof,
-    whys: &mut List<Why>,
-    given: &mut List<Edge>,
-) -> Result<(), Memory>
-    requires ledger { IsLedger lemmas.now goal.now proof.old whys.old given.old }
-    ensures ledger { OnOk result (IsLedger lemmas.now goal.now proof.new whys.new given.new) }
-    ensures covers { OnOk result (CoversAll goal.now given.new) }
+// The pairs that the goal gives.
+pub(crate) fn given_by(alloc: Global, goal: &Goal) -> Result<List<Edge>, Memory>
+    ensures sources { IfOk result (λ given. All (IsOfSource goal.now) given) }
+    ensures covers { IfOk result (λ given. CoversAll goal.now given) }
 {
     let _name = goal.name();
     let _nodes = goal.terms.len();
     let count = goal.hyps.len() as u32;
+    let mut given = List::new(alloc);
     for k in 0..count {
-        write_source(alloc, lemmas, goal, proof, whys, given, k)?;
+        push_source(goal, &mut given, k)?;
     }
-    write_source(alloc, lemmas, goal, proof, whys, given, count)?;
-    Ok(())
+    push_source(goal, &mut given, count)?;
+    Ok(given)
 }

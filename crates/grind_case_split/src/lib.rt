@@ -6,10 +6,11 @@ mod building;
 mod closing;
 pub mod equations;
 mod fact;
+mod fact_lines;
 mod given;
 pub mod laws;
-mod lines;
 pub mod plain;
+mod reasons;
 mod refuted;
 
 pub use equations::{Equations, equations_of};

@@ -1,4 +1,4 @@
-use Rattle.std.specs.Prelude.{◌≡◌, ℕ, List, Option, Some, IfSome, IsNone}
+use Rattle.std.specs.Prelude.{ℕ, List, Option, Some, IfSome, IsNone}
 use Rattle.std.proofs.Common.{sym, subst, rules}
 use Rattle.grind_classes.specs.Classes.{AreTogether}
 use Rattle.grind_congruence.specs.declared.edge.Found.{Found}

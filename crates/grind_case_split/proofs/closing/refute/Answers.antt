@@ -1,39 +1,48 @@
-use Rattle.std.specs.Prelude.{Bool, Some}
-use Rattle.std.proofs.Common.{ap, ◌∙◌}
+use Rattle.std.specs.Prelude.{ℕ, Bool}
+use Rattle.std.proofs.Common.{subst}
+use Rattle.grind_claims.specs.declared.claim.Claim.{Claim}
+use Rattle.grind_claims.specs.declared.proof.Proof.{Proof}
 use Rattle.grind_claims.specs.declared.claim.Claim.TheVariants.{Same, Differ}
-use Rattle.grind_case_split.specs.Facts.{sides_claim}
-use Rattle.grind_case_split.specs.Writing.{Claims}
-use Rattle.grind_case_split.proofs.LineLemmas.{claims_within}
-use Rattle.grind_case_split.proofs.DecidingLemmas.{rooted_appends, ends_claims, split_clash}
+use Rattle.grind_proof_writer.specs.Lines.{Tells}
+use Rattle.grind_proof_writer.proofs.LineLemmas.{Tells-stays, Tells-last, IsUsable-tells, claim_at-tells}
+use Rattle.grind_case_split.specs.Facts.{sides_claim, equates}
+use Rattle.grind_case_split.proofs.LineLemmas.{root_can_write, root_stays}
+use Rattle.grind_case_split.proofs.DecidingLemmas.{split_clash}
 use Rattle.grind_case_split.proofs.closing.refute.Goals as goal
 
 pub explain-requires-clause-reasons : goal.explain-requires-clause-reasons
 explain-requires-clause-reasons c = λ count _. c.requires.reasons count
 
-pub fact_line-requires-clause-rooted : goal.fact_line-requires-clause-rooted
-fact_line-requires-clause-rooted c =
-    rooted_appends c.args.lemmas.now c.args.goal.now c.args.proof.now c.explain.new.proof c.requires.rooted c.in_ok-same.ensures.appends
+pub explain-requires-clause-ready : goal.explain-requires-clause-ready
+explain-requires-clause-ready c = root_can_write c.args.writer.now c.args.proof.now c.requires.root
+
+pub fact_line-requires-clause-root : goal.fact_line-requires-clause-root
+fact_line-requires-clause-root c =
+    root_stays c.args.writer.now c.args.proof.now c.explain.new.proof c.requires.root c.in_ok-same.ensures.appends
 
 pub clash_line-requires-clause-one : goal.clash_line-requires-clause-one
 clash_line-requires-clause-one c =
-    let same : Claims c.fact_line.new.proof c.in_ok-same.same (Same c.args.fact.now.reading.left c.args.fact.now.reading.right) =
-    c.in_ok-differ.ensures.stay c.in_ok-same.same (Same c.args.fact.now.reading.left c.args.fact.now.reading.right)
-    (ends_claims c.explain.new.proof c.in_ok-same.same c.args.fact.now.reading.left c.args.fact.now.reading.right c.in_ok-same.ensures.last) in
-    claims_within c.fact_line.new.proof.lines c.in_ok-same.same (Same c.args.fact.now.reading.left c.args.fact.now.reading.right) same
+    let writer = c.args.writer.now in
+    let claim : Claim = Same c.args.fact.now.reading.left c.args.fact.now.reading.right in
+    IsUsable-tells c.fact_line.new.proof writer.branch c.in_ok-same.same claim
+    (Tells-stays writer.lemmas.now writer.goal.now c.explain.new.proof c.fact_line.new.proof writer.branch c.in_ok-same.same claim
+    c.in_ok-differ.ensures.writes (Tells-last c.explain.new.proof writer.branch c.in_ok-same.same claim c.in_ok-same.ensures.last))
 
 pub clash_line-requires-clause-other : goal.clash_line-requires-clause-other
 clash_line-requires-clause-other c =
-    let differ : Claims c.fact_line.new.proof c.in_ok-differ.differ (Differ c.args.fact.now.reading.left c.args.fact.now.reading.right) =
-    c.in_ok-differ.ensures.claims
-    ∙ ap (λ (same : Bool). Some (sides_claim same c.args.fact.now.reading.left c.args.fact.now.reading.right)) c.requires.refuted.differs in
-    claims_within c.fact_line.new.proof.lines c.in_ok-differ.differ (Differ c.args.fact.now.reading.left c.args.fact.now.reading.right) differ
+    IsUsable-tells c.fact_line.new.proof c.args.writer.now.branch c.in_ok-differ.differ
+    (sides_claim (equates c.args.fact.now) c.args.fact.now.reading.left c.args.fact.now.reading.right) c.in_ok-differ.ensures.tells
 
 pub clash_line-requires-clause-clash : goal.clash_line-requires-clause-clash
 clash_line-requires-clause-clash c =
-    let same : Claims c.fact_line.new.proof c.in_ok-same.same (Same c.args.fact.now.reading.left c.args.fact.now.reading.right) =
-    c.in_ok-differ.ensures.stay c.in_ok-same.same (Same c.args.fact.now.reading.left c.args.fact.now.reading.right)
-    (ends_claims c.explain.new.proof c.in_ok-same.same c.args.fact.now.reading.left c.args.fact.now.reading.right c.in_ok-same.ensures.last) in
-    let differ : Claims c.fact_line.new.proof c.in_ok-differ.differ (Differ c.args.fact.now.reading.left c.args.fact.now.reading.right) =
-    c.in_ok-differ.ensures.claims
-    ∙ ap (λ (same : Bool). Some (sides_claim same c.args.fact.now.reading.left c.args.fact.now.reading.right)) c.requires.refuted.differs in
-    split_clash c.args.goal.now.terms.nodes c.fact_line.new.proof.lines c.in_ok-same.same c.in_ok-differ.differ c.args.fact.now.reading.left c.args.fact.now.reading.right same differ
+    let a : ℕ = c.args.fact.now.reading.left in
+    let b : ℕ = c.args.fact.now.reading.right in
+    let branch : ℕ = c.args.writer.now.branch in
+    let new : Proof = c.fact_line.new.proof in
+    let same : Tells new branch c.in_ok-same.same (Same a b) =
+    Tells-stays c.args.writer.now.lemmas.now c.args.writer.now.goal.now c.explain.new.proof new branch c.in_ok-same.same (Same a b)
+    c.in_ok-differ.ensures.writes (Tells-last c.explain.new.proof branch c.in_ok-same.same (Same a b) c.in_ok-same.ensures.last) in
+    let differ : Tells new branch c.in_ok-differ.differ (Differ a b) =
+    subst (λ (is : Bool). Tells new branch c.in_ok-differ.differ (sides_claim is a b)) c.requires.refuted.differs c.in_ok-differ.ensures.tells in
+    split_clash new.terms.nodes new.lines c.in_ok-same.same c.in_ok-differ.differ a b
+    (claim_at-tells new branch c.in_ok-same.same (Same a b) same) (claim_at-tells new branch c.in_ok-differ.differ (Differ a b) differ)

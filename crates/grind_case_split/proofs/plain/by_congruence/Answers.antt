@@ -12,16 +12,14 @@ returns-in_default c =
     let terms : c.goal.inside.terms ≡ c.args.goal.now.terms = ap (λ (g : GoalData). g.terms) c.goal.view_is in
     let table : IsTable [] c.args.goal.now.terms.nodes = subst (λ (t : Terms). IsTable [] t.nodes) terms c.len-count.ensures.table in
     let none : IsNone c.first_refuted.result = search rules in
-    none_refuted c.args.lemmas.now c.args.goal.now c.in_ok-proof.field-0.proof c.in_ok-proof.field-0.whys c.in_ok-proof.field-0.given
-    c.in_ok-proof.field-0.closure table c.classes-classes.ensures.tied c.in_ok-proof.ensures.ledger c.in_ok-proof.ensures.covers
-    c.in_ok-proof.ensures.closure (c.first_refuted.ensures.none none)
+    none_refuted c.args.goal.now c.in_ok-known.known.given c.in_ok-known.known.closure table c.classes-classes.ensures.tied
+    c.in_ok-known.ensures.sources c.in_ok-known.ensures.covers c.in_ok-known.ensures.closure (c.first_refuted.ensures.none none)
 
 pub returns : goal.returns
 returns c =
     let terms : c.goal.inside.terms ≡ c.args.goal.now.terms = ap (λ (g : GoalData). g.terms) c.goal.view_is in
     let table : IsTable [] c.args.goal.now.terms.nodes = subst (λ (t : Terms). IsTable [] t.nodes) terms c.len-count.ensures.table in
     let entails : CongruenceEntails c.args.goal.now =
-    refuted_entails c.args.lemmas.now c.args.goal.now c.in_ok-proof.field-0.proof c.in_ok-proof.field-0.whys c.in_ok-proof.field-0.given
-    c.in_ok-proof.field-0.closure c.in-Some.fact table c.classes-classes.ensures.tied c.in_ok-proof.ensures.ledger c.in_ok-proof.ensures.covers
-    c.in_ok-proof.ensures.closure c.in-Some.ensures.some in
-    (entails, c.in_ok-refute.ensures)
+    refuted_entails c.args.goal.now c.in_ok-known.known.given c.in_ok-known.known.closure c.in-Some.fact table c.classes-classes.ensures.tied
+    c.in_ok-known.ensures.sources c.in_ok-known.ensures.covers c.in_ok-known.ensures.closure c.in-Some.ensures.some in
+    (entails, c.in_ok-proof.ensures)

@@ -1,7 +1,7 @@
 use Rattle.std.specs.Prelude.{◌≡◌, false}
 use Rattle.grind_case_split.specs.Facts.{equates}
 use Rattle.grind_case_split.proofs.GivenLemmas.{Covers-difference, Covers-pair}
-use Rattle.grind_case_split.proofs.given.write_source.Goals as goal
+use Rattle.grind_case_split.proofs.given.push_source.Goals as goal
 
 pub returns-then-not-is_equal-clause-covers : goal.returns-then-not-is_equal-clause-covers
 returns-then-not-is_equal-clause-covers c =
@@ -10,5 +10,5 @@ returns-then-not-is_equal-clause-covers c =
 
 pub returns-clause-covers : goal.returns-clause-covers
 returns-clause-covers c =
-    Covers-pair c.args.goal.now c.write_pair.new.given c.in-Some.fact c.args.k c.in-Some.ensures.is c.in-Some.ensures.source
-    c.in_ok-write_pair.ensures.pair
+    Covers-pair c.args.goal.now c.push_pair.new.given c.in-Some.fact c.args.k c.in-Some.ensures.is c.in-Some.ensures.source
+    c.in_ok-push_pair.ensures.pair

@@ -4,17 +4,20 @@ use Rattle.grind_term_graph.specs.Terms.{Terms}
 use Rattle.grind_term_graph.specs.Shape.{IsTable}
 use Rattle.grind_schemes.specs.Goals.{GoalData}
 use Rattle.grind_case_split.specs.Given.{CoversBelow}
-use Rattle.grind_case_split.proofs.GivenLemmas.{CoversBelow-start, CoversBelow-step, CoversAll-last}
-use Rattle.grind_case_split.proofs.given.write_all.Goals as goal
+use Rattle.grind_case_split.proofs.GivenLemmas.{sources_none, CoversBelow-start, CoversBelow-step, CoversAll-last}
+use Rattle.grind_case_split.proofs.given.given_by.Goals as goal
 
 pub loop-k-init : goal.loop-k-init
-loop-k-init c = record { ledger = c.requires.ledger; covers = CoversBelow-start c.args.goal.now c.args.given.now }
+loop-k-init c = record {
+  sources = sources_none c.args.goal.now c.new-given.result c.new-given.ensures;
+  covers = CoversBelow-start c.args.goal.now c.new-given.result;
+}
 
 pub loop-k-preserved : goal.loop-k-preserved
 loop-k-preserved c = record {
-  ledger = c.in_ok-write_source.ensures.ledger;
-  covers = CoversBelow-step c.args.goal.now c.loop-k.given c.write_source.new.given c.loop-k.k c.loop-k.invariant.covers
-      c.in_ok-write_source.ensures.keeps c.in_ok-write_source.ensures.covers;
+  sources = c.in_ok-push_source.ensures.sources;
+  covers = CoversBelow-step c.args.goal.now c.loop-k.given c.push_source.new.given c.loop-k.k c.loop-k.invariant.covers
+      c.in_ok-push_source.ensures.keeps c.in_ok-push_source.ensures.covers;
 }
 
 pub returns-clause-covers : goal.returns-clause-covers
@@ -26,5 +29,5 @@ returns-clause-covers c =
     let last : c.loop-k.k ≡ c.len-count.result = omega (arith, c.loop-k.auto.k-end, c.loop-k-test.false) in
     let covers : CoversBelow c.args.goal.now c.loop-k.given c.len-count.result =
     subst (λ (k : ℕ). CoversBelow c.args.goal.now c.loop-k.given k) last c.loop-k.invariant.covers in
-    CoversAll-last c.args.goal.now c.loop-k.given c.write_source-2.new.given c.len-count.result table c.name-name.ensures.keeps count covers
-    c.in_ok-write_source-2.ensures.keeps c.in_ok-write_source-2.ensures.covers
+    CoversAll-last c.args.goal.now c.loop-k.given c.push_source-2.new.given c.len-count.result table c.name-name.ensures.keeps count covers
+    c.in_ok-push_source-2.ensures.keeps c.in_ok-push_source-2.ensures.covers
