@@ -6,6 +6,7 @@ use Rattle.grind_polynomials.specs.declared.poly.PolyRefusal.{PolyRefusal}
 use Rattle.grind_polynomials.specs.declared.poly.PolyRefusal.TheVariants.{Overflow}
 use Rattle.grind_normal_forms.specs.declared.reduction.Reduced.{Reduced}
 use Rattle.grind_normal_forms.specs.declared.factors.Factors.{Factors}
+use Rattle.grind_normal_forms.specs.declared.gathering.Moving.{Moving}
 use Rattle.grind_polynomials.specs.Polynomials.{fit_or_refuse}
 use Rattle.grind_polynomials.specs.Sums.{and_then, signed, with_more}
 use Rattle.grind_normal_forms.specs.Pairs.{lead_monomial}
@@ -21,6 +22,10 @@ pub record Move : Type 0 where
 
 abbrev pub move_by : Bool → ℤ → ℤ → List ℕ → Move
 move_by minus unit weight monomial = record { minus = minus; unit = unit; weight = weight; monomial = monomial }
+
+-- the move with these parts
+abbrev pub move_with : Moving → Move
+move_with moving = move_by moving.minus moving.unit moving.weight moving.monomial.now
 
 -- the move of a step
 abbrev pub move_of : Bool → Target → ℕ → Move

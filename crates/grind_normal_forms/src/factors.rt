@@ -7,7 +7,7 @@ ghost use Rattle.grind_normal_forms.specs.Gathering as gathering;
 ghost use Rattle.grind_normal_forms.specs.FinalFactors as whole;
 
 use crate::content::content_of;
-use crate::gathering::moved_factors;
+use crate::gathering::{Moving, moved_factors};
 use crate::numbers::{common_divisor, unit_of, weight_of};
 use crate::reduction::{Reduced, reduce, step_by, target};
 use grind_outside::{List, Memory};
@@ -155,14 +155,13 @@ fn gather_step(
     };
     let state = step_by(alloc, &now.state, term, element)?;
     let monomial = term.monomial.as_slice();
-    let list = moved_factors(
+    let moving = Moving {
         alloc,
         minus,
         unit,
         weight,
         monomial,
-        basis,
-        now.list.as_slice(),
-    )?;
+    };
+    let list = moved_factors(&moving, basis, now.list.as_slice())?;
     Ok(Some(Gathered { state, list }))
 }
