@@ -21,7 +21,7 @@ import sys
 import tempfile
 
 CHAINS = [250_000, 500_000, 1_000_000, 2_000_000]
-TREES = [1_000, 2_000, 4_000, 8_000]
+TREES = [1_000, 2_000, 4_000, 8_000, 16_000, 32_000, 64_000]
 TABLES = [500, 1_000, 2_000, 4_000]
 JOBS = [0, 1, 2, 4]
 TERMS = 60_000
@@ -84,7 +84,7 @@ def rows(programs, family, unit, sizes, ways_of, rounds):
                 before = half.get((program, way))
                 growth = f"{time / before:.2f}" if before else ""
                 part = f"{time / taken[program, 1]:.2f}" if (program, 1) in taken else ""
-                cells.append(f"{time:.3f} | {growth} | {part}")
+                cells.append(f"{time:.6f} | {growth} | {part}")
             print(f"| `{family}` | {size:,} {unit} | {way} | {' | '.join(cells)} |", flush=True)
         half = taken
 
