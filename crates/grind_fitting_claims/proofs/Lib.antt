@@ -6,3 +6,5 @@ pub mod ReadingsAreForms
 pub mod EquationsAreForms
 pub mod DifferenceResults
 pub mod CombineResults
+pub mod MoreExactly
+pub mod IdealResults

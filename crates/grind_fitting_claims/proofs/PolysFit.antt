@@ -41,7 +41,7 @@ parts_of : {A B : Type 0} (f : A → Result B PolyRefusal) (r : Result A PolyRef
 parts_of {A} {B} f (Ok x) y e = (x, refl, e)
 parts_of {A} {B} f (Err refusal) y e = let wrong : Result B PolyRefusal = Err refusal in absurd (ok-err wrong y refusal e refl)
 
-is_fitting : (z y : ℤ) → fit_or_refuse z ≡ Ok y → FitsSigned w128 y
+pub is_fitting : (z y : ℤ) → fit_or_refuse z ≡ Ok y → FitsSigned w128 y
 unfolding fit_or_refuse
 is_fitting (pos n) y e = by_range (ltb n (2 ^ 127)) (pos n) y Overflow (λ low. record { sfits = ltb-true n (2 ^ 127) low }) e
   where

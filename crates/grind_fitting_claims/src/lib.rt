@@ -5,8 +5,10 @@
 #![tactic(auto)]
 
 ghost use Rattle.grind_fitting_claims.specs.Fitting.{AllowedFits};
+ghost use Rattle.grind_fitting_claims.specs.PolyResults.{IdealAllowsItsResult};
 ghost use Rattle.grind_fitting_claims.specs.Results.{DifferencesAreExact, LineAllowsItsResult, ReadAllowsItsResult, StrictAllowsItsResult, CombineAllowsItsResult};
 
+use grind_lemmas::products_cancel;
 use grind_linear_forms::one_cut;
 
 /// Over terms whose numbers fit, in a branch whose literal fits, what a rule other than `combine` allows fits. The law is a call
@@ -40,4 +42,11 @@ pub fn combine_allows_its_result()
     ensures { CombineAllowsItsResult }
 {
     one_cut();
+}
+
+/// `ideal` allows exactly its result, where each number on the way fits and each quotient does.
+pub fn ideal_allows_its_result()
+    ensures { IdealAllowsItsResult }
+{
+    products_cancel();
 }
