@@ -55,11 +55,20 @@ def reductions(size):
     return theory(names, rules, f"{some} * {some}")
 
 
+def pairs(size):
+    """So many hypotheses about sums of four atoms that share their parts, so that one table has all sides."""
+    names = [f"x{i}" for i in range(200)]
+    side = lambda i: f"({names[i % 200]} + {i % 7 + 1}*{names[i // 200 % 200]} + {i})"
+    return theory(names, [f"{side(i)} = {side(i + 1)}" for i in range(size)], names[0])
+
+
 FAMILIES = [
     ("linear", "`sums` of atoms", sums, [10, 100, 1_000, 10_000]),
     ("poly", "`powers` of a sum of four atoms", powers, [1, 2, 4, 8, 16]),
     ("poly", "`products` of two sums of atoms", products, [50, 100, 200, 400]),
     ("normal", "`reductions` by 50 elements", reductions, [5, 10, 20, 40]),
+    ("form_pairs", "`pairs` of terms of one table, as forms", pairs, [1_250, 2_500, 5_000, 10_000]),
+    ("poly_pairs", "`pairs` of terms of one table, as polynomials", pairs, [1_250, 2_500, 5_000, 10_000]),
 ]
 
 

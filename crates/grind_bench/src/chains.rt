@@ -29,45 +29,30 @@ fn lines_of(alloc: Global, show: NodeId, side: NodeId, size: u32) -> Result<List
     requires { size ≤ 4000000 }
 {
     let mut lines = List::new(alloc);
-    push(alloc, &mut lines, Rule::Negated, &[], Claim::Fails(show))?;
-    push(alloc, &mut lines, Rule::Refl, &[], Claim::Same(side, side))?;
+    lines.push(line(alloc, 0, Rule::Negated, &[], Claim::Fails(show))?)?;
+    lines.push(line(alloc, 0, Rule::Refl, &[], Claim::Same(side, side))?)?;
     for last in 1..size + 1 {
-        push(
-            alloc,
-            &mut lines,
-            Rule::Trans,
-            &[last, 1],
-            Claim::Same(side, side),
-        )?;
+        lines.push(line(alloc, 0, Rule::Trans, &[last, 1], Claim::Same(side, side))?)?;
     }
-    push(
-        alloc,
-        &mut lines,
-        Rule::Back,
-        &[size + 1],
-        Claim::Holds(show),
-    )?;
-    push(
-        alloc,
-        &mut lines,
-        Rule::Clash,
-        &[size + 2, 0],
-        Claim::Absurd,
-    )?;
+    let back = line(alloc, 0, Rule::Back, &[size + 1], Claim::Holds(show))?;
+    lines.push(back)?;
+    let clash = line(alloc, 0, Rule::Clash, &[size + 2, 0], Claim::Absurd)?;
+    lines.push(clash)?;
     Ok(lines)
 }
 
-fn push(
+/// A line of that branch.
+pub fn line(
     alloc: Global,
-    lines: &mut List<Line>,
+    branch: u32,
     rule: Rule,
     from: &[u32],
     claim: Claim,
-) -> Result<(), Memory> {
+) -> Result<Line, Memory> {
     let mut premises = List::new(alloc);
     premises.extend(from)?;
-    lines.push(Line {
-        branch: 0,
+    Ok(Line {
+        branch,
         rule,
         premises,
         claim,

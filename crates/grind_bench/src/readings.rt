@@ -13,8 +13,10 @@ use std::alloc::Global;
 /// The sides of an equation of whole numbers.
 #[derive(Clone, Copy)]
 pub struct Sides {
-    left: NodeId,
-    right: NodeId,
+    /// The left one.
+    pub left: NodeId,
+    /// The right one.
+    pub right: NodeId,
 }
 
 /// How many parts the reading of the conclusion's left side has as a linear form, where it has one.
@@ -139,14 +141,14 @@ fn polynomial(alloc: Global, terms: &TermTable, node: NodeId) -> Result<Option<P
 }
 
 /// Whether the node is a whole number.
-fn is_number(terms: &TermTable, node: NodeId) -> bool
+pub fn is_number(terms: &TermTable, node: NodeId) -> bool
     ensures { IsTrue result → sort_at terms.now.nodes node ≡ Some int }
 {
     node.number() < terms.len() && terms.sort(node) == SortId::INT
 }
 
 /// The two arguments of a node, where there are two.
-fn sides_of(terms: &TermTable, node: NodeId) -> Option<Sides> {
+pub fn sides_of(terms: &TermTable, node: NodeId) -> Option<Sides> {
     if node.number() >= terms.len() {
         return None;
     }

@@ -42,13 +42,13 @@ abbrev pub AnswersAll : SignatureData → Lemmas → List GoalData → List Bloc
 AnswersAll signature lemmas goals blocks = AllZip (AnswersGoal signature lemmas) goals blocks
 
 -- the block is that of a closed goal
-abbrev pub IsClosed : Block → Type 0
-IsClosed (Closed name raw) = Unit {0}
-IsClosed (Unexplored name) = ⊥
+abbrev pub IsClosedBlock : Block → Type 0
+IsClosedBlock (Closed name raw) = Unit {0}
+IsClosedBlock (Unexplored name) = ⊥
 
 -- each block is that of a closed goal
 abbrev pub AreClosed : List Block → Type 0
-AreClosed blocks = AllByRecursion IsClosed blocks
+AreClosed blocks = AllByRecursion IsClosedBlock blocks
 
 -- these bytes were written behind what stood there, and they are a report that answers each goal
 pub record WritesReport (signature : SignatureData) (lemmas : Lemmas) (goals : List GoalData) (old new : Option (List ℕ)) (bytes : List ℕ) (report : Report) : Type 0 where

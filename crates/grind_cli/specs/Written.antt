@@ -8,7 +8,7 @@ use Rattle.grind_report.specs.declared.report.Outcome.{Outcome}
 use Rattle.grind_report.specs.declared.report.Outcome.TheVariants as outcomes
 use Rattle.grind_signature.specs.Signatures.{SignatureData}
 use Rattle.grind_report.specs.Report.{Block, BlockFits, block_bytes, header_bytes}
-use Rattle.grind_cli.specs.Answers.{AnswersGoal, AnswersAll, BeginsGoal, IsClosed, IsPartOfBlocks}
+use Rattle.grind_cli.specs.Answers.{AnswersGoal, AnswersAll, BeginsGoal, IsClosedBlock, IsPartOfBlocks}
 
 -- some first bytes of the line were written
 abbrev pub WritesFront : Option (List ℕ) → Option (List ℕ) → List ℕ → Type 0
@@ -24,14 +24,14 @@ pub record SpellsBlock (signature : SignatureData) (lemmas : Lemmas) (goal : Goa
   pub answers : AnswersGoal signature lemmas goal block
   pub fits : BlockFits block
   pub bytes_are : bytes ≡ block_bytes block
-  pub closed_is : IsTrue closed ↔ IsClosed block
+  pub closed_is : IsTrue closed ↔ IsClosedBlock block
 
 -- a block that answers the goal was written
 pub record WritesBlock (signature : SignatureData) (lemmas : Lemmas) (goal : GoalData) (old new : Option (List ℕ)) (closed : Bool) (block : Block) : Type 0 where
   pub answers : AnswersGoal signature lemmas goal block
   pub fits : BlockFits block
   pub written : new ≡ appended old (block_bytes block)
-  pub closed_is : IsTrue closed ↔ IsClosed block
+  pub closed_is : IsTrue closed ↔ IsClosedBlock block
 
 -- nothing was written, or some first bytes of a block that answers the goal
 abbrev pub BeginsBlock : SignatureData → Lemmas → GoalData → Option (List ℕ) → Option (List ℕ) → Type 0

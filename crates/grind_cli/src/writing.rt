@@ -2,7 +2,7 @@
 ghost use Rattle.std.specs.Prelude.{◌≡◌, ◌≤◌, ◌<◌, ◌^◌, ◌↔◌, ℕ, List as Sequence, [], ◌∷◌, length, IfOk, OnOk, OnErr, IsTrue};
 ghost use Rattle.grind_outside.specs.Outside.{CountsFault, OnPutFailed, UnlessPutFailed, appended};
 ghost use Rattle.grind_report.specs.Report.{Block, BlockFits, Report, header_bytes, block_bytes, end_bytes};
-ghost use Rattle.grind_cli.specs.Answers.{AnswersGoal, IsClosed, AreClosed, WritesReport, WritesPart};
+ghost use Rattle.grind_cli.specs.Answers.{AnswersGoal, IsClosedBlock, AreClosed, WritesReport, WritesPart};
 ghost use Rattle.grind_theory.specs.Theories.{AreDeclared, IsGoalDeclared};
 ghost use Rattle.grind_cli.specs.Written.{AwaitsGoals, WritesFront, WritesBlock, BeginsBlock, SpellsBlock, IsClosedOutcome, WritesBlocks, WritesSomeBlocks};
 

@@ -3,7 +3,7 @@ use Rattle.std.proofs.Common.{◌≡◌, ◌⊎◌, inl, inr, ℕ, ◌≤◌, ma
 use Rattle.grind_classes.specs.Classes.{IsPartition}
 use Rattle.grind_schemes.specs.Instances.{IsSubstitution}
 use Rattle.grind_ematch.specs.declared.partial.Partial.{Partial}
-use Rattle.grind_ematch.specs.Partials.{QueryData, Agrees, Represents, Joins, Gathers, Thins}
+use Rattle.grind_ematch.specs.Partials.{QueryData, Agrees, Represents, Joins, HoldsBoth, Thins}
 use Rattle.grind_ematch.proofs.Along.{none_in}
 use Rattle.grind_ematch.proofs.SlotLemmas.{Agrees-union, union_of_agreeing, AreSlots-union, IsBound-left, IsBound-right}
 
@@ -67,7 +67,7 @@ module _ (query : QueryData) where
 
   -- those of either way
   pub Represents-either : (P Q R : List ℕ → ℕ → Type 0) (W : ℕ → Type 0) (left right list : List Partial)
-      → Gathers left right list
+      → HoldsBoth left right list
       → ((subst' : List ℕ) (g : ℕ) → P subst' g → R subst' g) → ((subst' : List ℕ) (g : ℕ) → Q subst' g → R subst' g)
       → ((subst' : List ℕ) (g : ℕ) → R subst' g → P subst' g ⊎ Q subst' g)
       → Represents query P W left → Represents query Q W right → Represents query R W list

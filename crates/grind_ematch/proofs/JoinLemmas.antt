@@ -4,7 +4,7 @@ use Rattle.std.specs.Prelude.{map}
 use Rattle.std.proofs.lemmas.List.Elements.{Contains-push, Contains-push_cases, Contains-append_left, Contains-append_right, Contains-append_cases}
 use Rattle.grind_ematch.specs.declared.partial.Partial.{Partial}
 use Rattle.grind_ematch.specs.declared.found.Match.{Match}
-use Rattle.grind_ematch.specs.Partials.{AreUnion, HasNoUnion, Joins, JoinsOne, Gathers, AreMatchesOf}
+use Rattle.grind_ematch.specs.Partials.{AreUnion, HasNoUnion, Joins, JoinsOne, HoldsBoth, AreMatchesOf}
 use Rattle.grind_ematch.proofs.Along.{none_in, only_in, first_in}
 
 abbrev pub partial_of : List (Option ℕ) → ℕ → Partial
@@ -140,7 +140,7 @@ IsGathering-next old more found rest next fewer one e f h =
     last_in = subst (λ (list : List Partial). Contains list one) (sym e) (Contains-push fewer one)
 
 pub IsGathering-last : (old more found rest : List Partial) → rest ≡ [] → IsGathering old more found rest
-    → Gathers old more found
+    → HoldsBoth old more found
 IsGathering-last old more found rest e h = record {
   kept = h.kept;
   added = λ partial there. elim (h.added partial there) [

@@ -10,7 +10,7 @@ use Rattle.grind_schemes.specs.Theorems.{TheoremData, IsTheorem, HoldsEach}
 use Rattle.grind_schemes.specs.Instances.{node_of}
 use Rattle.grind_ematch.specs.declared.partial.Partial.{Partial}
 use Rattle.grind_ematch.specs.Matches.{Scene, Meets, MeetEach}
-use Rattle.grind_ematch.specs.Partials.{QueryData, Gathers, Joins, AreCandidates, MeetFrom, MeetsOneOf, MeetsSome, MeetAll, MeetAllOfOne, MeetsTheorem, IsVarOf, IsVarIn, IsVarOfQuery, ListsClasses, ListsOneOf, ListsSome, ListsAll, ListsAllOfOne, ListsTheorem}
+use Rattle.grind_ematch.specs.Partials.{QueryData, HoldsBoth, Joins, AreCandidates, MeetFrom, MeetsOneOf, MeetsSome, MeetAll, MeetAllOfOne, MeetsTheorem, IsVarOf, IsVarIn, IsVarOfQuery, ListsClasses, ListsOneOf, ListsSome, ListsAll, ListsAllOfOne, ListsTheorem}
 use Rattle.grind_ematch.proofs.Along.{none_in}
 use Rattle.grind_ematch.proofs.Algebra.{Both, Represents-same, Represents-none, Represents-either, Represents-both}
 use Rattle.grind_ematch.proofs.NodeLemmas.{var_of_pushed}
@@ -110,7 +110,7 @@ module _ (query : QueryData) where
 
   -- lists of patterns and one more
   pub lists_next : (done : List (List Scheme)) (patterns : List Scheme) (found list new : List Partial)
-      → HoldsEach query.vars patterns → ListsAll query patterns list → Gathers found list new
+      → HoldsEach query.vars patterns → ListsAll query patterns list → HoldsBoth found list new
       → ListsAllOfOne query done found → ListsAllOfOne query (done ++ patterns ∷ []) new
   unfolding MeetAllOfOne IsVarOf
   lists_next done patterns found list new holds own gathers h =

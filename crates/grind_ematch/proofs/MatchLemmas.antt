@@ -9,7 +9,7 @@ use Rattle.grind_schemes.specs.Instances.{IsSubstitution}
 use Rattle.grind_schemes.specs.Theorems.{TheoremData}
 use Rattle.grind_ematch.specs.declared.partial.Partial.{Partial}
 use Rattle.grind_ematch.specs.declared.found.Match.{Match}
-use Rattle.grind_ematch.specs.Matches.{Scene, IsMet, IsMatch, IsListed, AreEqualUpToClass, ListsMatches, ListsEachMatch}
+use Rattle.grind_ematch.specs.Matches.{Scene, IsMet, IsMatchOf, IsListedMatch, AreEqualUpToClass, ListsMatches, ListsEachMatch}
 use Rattle.grind_ematch.specs.Partials.{QueryData, AreSlots, Agrees, AreBound, AreMatchesOf, MeetsTheorem, ListsTheorem}
 use Rattle.grind_ematch.proofs.SceneLemmas.{some_is}
 
@@ -65,8 +65,8 @@ module _ (query : QueryData) (theorem : TheoremData) (theorems : List TheoremDat
   unfolding MeetsTheorem
   listed other e =
       let same : theorem ≡ other = some_is theorem other (sym got ∙ e) in
-      subst (λ (t : TheoremData). All (IsListed query.scene t number query.most) found) same
-      (all_by (IsListed query.scene theorem number query.most) found (λ one there.
+      subst (λ (t : TheoremData). All (IsListedMatch query.scene t number query.most) found) same
+      (all_by (IsListedMatch query.scene theorem number query.most) found (λ one there.
       let m = matches.from one there in
       let formed = lists.formed m.0 m.1 in
       let slots = subst (λ (s : List (Option ℕ)). AreSlots query.scene query.vars s) (sym m.3) formed.slots in
@@ -86,7 +86,7 @@ module _ (query : QueryData) (theorem : TheoremData) (theorems : List TheoremDat
   unfolding MeetsTheorem
   each_listed partition other e subst' g match within =
       let same : other ≡ theorem = some_is other theorem (sym e ∙ got) in
-      let mine : IsMatch query.scene theorem subst' g = subst (λ (t : TheoremData). IsMatch query.scene t subst' g) same match in
+      let mine : IsMatchOf query.scene theorem subst' g = subst (λ (t : TheoremData). IsMatchOf query.scene t subst' g) same match in
       let fits = subst (λ (sorts : List ℕ). IsSubstitution query.scene.nodes sorts subst') (sym vars) mine.0 in
       let p = lists.complete subst' g fits mine.1 within in
       let m = matches.all p.0 p.1 in

@@ -12,7 +12,7 @@ use Rattle.grind_schemes.specs.Instances.{node_of, IsSubstitution}
 use Rattle.grind_schemes.proofs.SchemeLemmas.{any_first, any_rest, any_none, any_cases, HasVar-Apply, IsScheme-Apply}
 use Rattle.grind_ematch.specs.declared.partial.Partial.{Partial}
 use Rattle.grind_ematch.specs.Matches.{Scene, generation_of, Meets}
-use Rattle.grind_ematch.specs.Partials.{QueryData, IsQuery, AreSlots, Agrees, IsBound, IsPartial, Represents, Gathers, Joins, AreTargets, MeetsClass, MeetClasses, MeetFrom, MeetsOneOf, IsVarOf, IsVarIn, ListsClasses, ListsOneOf, GoesOnAt}
+use Rattle.grind_ematch.specs.Partials.{QueryData, IsQuery, AreSlots, Agrees, IsBound, IsPartial, Represents, HoldsBoth, Joins, AreTargets, MeetsClass, MeetClasses, MeetFrom, MeetsOneOf, IsVarOf, IsVarIn, ListsClasses, ListsOneOf, GoesOnAt}
 use Rattle.grind_ematch.proofs.Along.{none_in, only_in, all_by}
 use Rattle.grind_ematch.proofs.SlotLemmas.{AreSlots-empty, Agrees-empty, AreSlots-one, Agrees-one, Agrees-at, set_slot}
 use Rattle.grind_ematch.proofs.Algebra.{Both, Represents-same, Represents-none, Represents-either, Represents-both}
@@ -113,7 +113,7 @@ module _ (query : QueryData) where
       (λ variable w. w) h
 
   -- a node that has it adds its own partial matches
-  pub nodes_more : (pattern : Scheme) (done : List ℕ) (n : ℕ) (list more new : List Partial) → Gathers list more new
+  pub nodes_more : (pattern : Scheme) (done : List ℕ) (n : ℕ) (list more new : List Partial) → HoldsBoth list more new
       → Represents query (λ subst' g. Meets query.scene subst' pattern n g) (IsVarIn pattern) more
       → ListsOneOf query pattern done list → ListsOneOf query pattern (done ++ n ∷ []) new
   unfolding MeetsOneOf
@@ -263,7 +263,7 @@ args_next query partition from args ids arg id nodes found list new long targets
     ))
     (λ variable w. w) both
 
-appended : (xs ys : List Partial) → Gathers xs ys (xs ++ ys)
+appended : (xs ys : List Partial) → HoldsBoth xs ys (xs ++ ys)
 appended xs ys = record {
   kept = λ partial there. Contains-append_left xs ys partial there;
   added = λ partial there. Contains-append_right xs ys partial there;
@@ -293,7 +293,7 @@ pub bind_some : (query : QueryData) → IsQuery query → (number n root : ℕ) 
 bind_some query is number n root slots found new within sorted own rooted e f done h =
     let sort = got_some query.vars number within in
     let alone = var_alone query is number n root sort.0 slots within sort.1 (sorted ∙ sort.1) own rooted e in
-    let gathers = subst (λ (list : List Partial). Gathers found (partial_of slots 0 ∷ []) list) (sym f)
+    let gathers = subst (λ (list : List Partial). HoldsBoth found (partial_of slots 0 ∷ []) list) (sym f)
     (appended found (partial_of slots 0 ∷ [])) in
     nodes_more query (Var number) done n found (partial_of slots 0 ∷ []) new gathers alone h
 

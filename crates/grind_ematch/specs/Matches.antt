@@ -32,8 +32,8 @@ abbrev pub generation_of : Scene → ℕ → ℕ
 generation_of scene n = slice_index_or scene.generations n 0
 
 -- the variable stands for a node of the class of this one
-abbrev pub StandsFor : Scene → List ℕ → ℕ → ℕ → Type 0
-StandsFor scene subst variable n =
+abbrev pub IsBoundTo : Scene → List ℕ → ℕ → ℕ → Type 0
+IsBoundTo scene subst variable n =
     (other : ℕ) × (slice_get subst variable ≡ Some other) × AreTogether scene.classes other n
 
 -- the pattern under the substitution equals the node up to class, and this is the greatest generation of the nodes
@@ -41,7 +41,7 @@ StandsFor scene subst variable n =
 -- the pattern equals some member of the class of the node's argument
 abbrev mutual
   pub Meets : Scene → List ℕ → Scheme → ℕ → ℕ → Type 0
-  Meets scene subst (Var number) n generation = StandsFor scene subst number n × (generation ≡ 0)
+  Meets scene subst (Var number) n generation = IsBoundTo scene subst number n × (generation ≡ 0)
   Meets scene subst (Apply' head sort shape args) n generation =
       (ids : List ℕ) × (inner : ℕ) × IsActive scene.classes n
       × (slice_get scene.nodes n ≡ Some (node_of head sort ids))
@@ -68,8 +68,8 @@ IsMet scene theorem subst generation =
     ⊎ ((patterns : List Scheme) × Contains theorem.patterns patterns × MeetEach scene subst patterns generation)
 
 -- the substitution is a match of the theorem, of this generation
-abbrev pub IsMatch : Scene → TheoremData → List ℕ → ℕ → Type 0
-IsMatch scene theorem subst generation =
+abbrev pub IsMatchOf : Scene → TheoremData → List ℕ → ℕ → Type 0
+IsMatchOf scene theorem subst generation =
     IsSubstitution scene.nodes theorem.vars subst × IsMet scene theorem subst generation
 
 -- the substitutions have nodes of one class for each variable
@@ -80,21 +80,21 @@ AreEqualUpToClass scene (one ∷ ones) (other ∷ others) =
 AreEqualUpToClass scene _ _ = ⊥
 
 -- a match of the theorem, of generation at most this, whose nodes are active
-abbrev pub IsListed : Scene → TheoremData → ℕ → ℕ → Match → Type 0
-IsListed scene theorem number most found =
-    (found.theorem ≡ number) × IsMatch scene theorem found.subst found.generation × (found.generation ≤ most)
+abbrev pub IsListedMatch : Scene → TheoremData → ℕ → ℕ → Match → Type 0
+IsListedMatch scene theorem number most found =
+    (found.theorem ≡ number) × IsMatchOf scene theorem found.subst found.generation × (found.generation ≤ most)
     × All (IsActive scene.classes) found.subst
 
 -- each of the list is a match of the theorem of this number, of generation at most this
 abbrev pub ListsMatches : Scene → List TheoremData → ℕ → ℕ → List Match → Type 0
 ListsMatches scene theorems number most list =
     (theorem : TheoremData) → slice_get theorems number ≡ Some theorem →
-    All (IsListed scene theorem number most) list
+    All (IsListedMatch scene theorem number most) list
 
 -- each match of the theorem of this number, of generation at most this, is up to class in the list, where it has no
 -- greater generation
 abbrev pub ListsEachMatch : Scene → List TheoremData → ℕ → ℕ → List Match → Type 0
 ListsEachMatch scene theorems number most list =
     (theorem : TheoremData) → slice_get theorems number ≡ Some theorem →
-    (subst : List ℕ) (generation : ℕ) → IsMatch scene theorem subst generation → generation ≤ most →
+    (subst : List ℕ) (generation : ℕ) → IsMatchOf scene theorem subst generation → generation ≤ most →
     Any (λ (found : Match). AreEqualUpToClass scene found.subst subst × (found.generation ≤ generation)) list

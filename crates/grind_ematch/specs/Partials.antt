@@ -171,7 +171,7 @@ pub record JoinsOne (one : Partial) (right old new : List Partial) : Type 0 wher
       × (partial.generation ≡ max one.generation other.generation)
 
 -- the list has what either of the others has
-pub record Gathers (old more new : List Partial) : Type 0 where
+pub record HoldsBoth (old more new : List Partial) : Type 0 where
   pub kept : (partial : Partial) → Contains old partial → Contains new partial
   pub added : (partial : Partial) → Contains more partial → Contains new partial
   pub from : (partial : Partial) → Contains new partial → Contains old partial ⊎ Contains more partial

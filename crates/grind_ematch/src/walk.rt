@@ -4,7 +4,7 @@ ghost use Rattle.grind_classes.specs.Classes.{IsActive};
 ghost use Rattle.grind_schemes.specs.Schemes.{IsScheme};
 ghost use Rattle.grind_schemes.specs.declared.scheme.Scheme.{Var};
 ghost use Rattle.grind_ematch.specs.Matches.{generation_of};
-ghost use Rattle.grind_ematch.specs.Partials.{ListsClasses, ListsOneOf, Gathers, GoesOnAt};
+ghost use Rattle.grind_ematch.specs.Partials.{ListsClasses, ListsOneOf, HoldsBoth, GoesOnAt};
 
 use crate::joining::joined;
 use crate::partial::Partial;
@@ -90,7 +90,7 @@ fn is_headed(node: &Node, head: Head, sort: SortId, count: usize) -> bool
 
 // Appends partial matches.
 pub(crate) fn append(found: &mut List<Partial>, list: List<Partial>) -> Result<(), Memory>
-    ensures { OnOk result (Gathers found.old list found.new) }
+    ensures { OnOk result (HoldsBoth found.old list found.new) }
 {
     let mut rest = list;
     while let Some(partial) = rest.pop() {

@@ -1,7 +1,7 @@
 -- Sums of linear forms fit.
 use Rattle.std.proofs.Common.{◌≡◌, ℕ, zero, suc, Bool, true, false, cond, ltb, ◌^◌, ℤ, pos, negsuc, ◌+ℤ◌, ◌*ℤ◌, FitsSigned, List, [], ◌∷◌, All, Option, Some, None, refl, sym, subst}
 use Rattle.std.specs.Prelude.{nat_lt, if◌then◌else◌}
-use Rattle.std.specs.Option.{option_map, option_and_then}
+use Rattle.std.specs.Option.{option_and_then}
 use Rattle.std.specs.Int.{w128}
 use Rattle.std.proofs.lemmas.Bool.{ltb-true}
 use Rattle.std.proofs.lemmas.Option.{none-some, same_Some}
@@ -11,19 +11,19 @@ use Rattle.grind_linear_forms.specs.declared.form.Part.{Part}
 use Rattle.grind_linear_forms.specs.Forms.{FormData, form_data, part_of, fit}
 use Rattle.grind_linear_forms.specs.Sums.{multiple, combination, in_front, front, multiplied, merged_from, merged, both, scaled_sum}
 use Rattle.grind_differences.specs.Differences.{reading, difference}
-use Rattle.grind_fitting_claims.specs.Fitting.{FormFits}
+use Rattle.grind_fitting_claims.specs.Fitting.{FormNumbersFit}
 
 by_range : (b : Bool) (z y : ℤ) → (b ≡ true → FitsSigned w128 z) → cond b (Some z) None ≡ Some y → FitsSigned w128 y
 by_range true z y fits e = subst (FitsSigned w128) (same_Some z y e) (fits refl)
 by_range false z y fits e = absurd (none-some y e)
 
 -- what is answered fits
-fit_fits : (z y : ℤ) → fit z ≡ Some y → FitsSigned w128 y
+pub fit_fits : (z y : ℤ) → fit z ≡ Some y → FitsSigned w128 y
 unfolding fit
 fit_fits (pos n) y e = by_range (ltb n (2 ^ 127)) (pos n) y (λ low. record { sfits = ltb-true n (2 ^ 127) low }) e
 fit_fits (negsuc n) y e = by_range (ltb n (2 ^ 127)) (negsuc n) y (λ low. record { sfits = ltb-true n (2 ^ 127) low }) e
 
-multiple_fits : (m x y : ℤ) → multiple m x ≡ Some y → FitsSigned w128 y
+pub multiple_fits : (m x y : ℤ) → multiple m x ≡ Some y → FitsSigned w128 y
 unfolding multiple
 multiple_fits m x y e = fit_fits (m *ℤ x) y e
 
@@ -88,27 +88,27 @@ merged_fits m [] k ys parts e = multiplied_fits k ys parts e
 merged_fits m (x ∷ xs) k ys parts e = merged_from_fits m x k (merged m xs k) ys parts (λ zs ps f. merged_fits m xs k zs ps f) e
 
 both_fit : (parts : Option (List Part)) (constant : Option ℤ) (form : FormData) → ((xs : List Part) → parts ≡ Some xs → PartsFit xs) →
-    ((z : ℤ) → constant ≡ Some z → FitsSigned w128 z) → both parts constant ≡ Some form → FormFits form
+    ((z : ℤ) → constant ≡ Some z → FitsSigned w128 z) → both parts constant ≡ Some form → FormNumbersFit form
 both_fit None constant form first second e = absurd (none-some form e)
 both_fit (Some xs) None form first second e = absurd (none-some form e)
-both_fit (Some xs) (Some z) form first second e = subst FormFits (same_Some (form_data xs z) form e) (first xs refl, second z refl)
+both_fit (Some xs) (Some z) form first second e = subst FormNumbersFit (same_Some (form_data xs z) form e) (first xs refl, second z refl)
 
-sum_fits : (a : FormData) (m : ℤ) (b : FormData) (k : ℤ) (form : FormData) → scaled_sum a m b k ≡ Some form → FormFits form
+sum_fits : (a : FormData) (m : ℤ) (b : FormData) (k : ℤ) (form : FormData) → scaled_sum a m b k ≡ Some form → FormNumbersFit form
 sum_fits a m b k form e =
     both_fit (merged m a.parts k b.parts) (combination m a.constant k b.constant) form (λ xs f. merged_fits m a.parts k b.parts xs f)
     (λ z f. combination_fits m a.constant k b.constant z f) e
 
 of_readings : (left right : Option FormData) (form : FormData) →
-    option_and_then (λ a. option_and_then (λ b. scaled_sum a (pos 1) b (negsuc 0)) right) left ≡ Some form → FormFits form
+    option_and_then (λ a. option_and_then (λ b. scaled_sum a (pos 1) b (negsuc 0)) right) left ≡ Some form → FormNumbersFit form
 of_readings None right form e = absurd (none-some form e)
 of_readings (Some a) None form e = absurd (none-some form e)
 of_readings (Some a) (Some b) form e = sum_fits a (pos 1) b (negsuc 0) form e
 
 -- a difference fits
-pub difference_fits : (nodes : List Node) (a b : ℕ) (form : FormData) → difference nodes a b ≡ Some form → FormFits form
+pub difference_fits : (nodes : List Node) (a b : ℕ) (form : FormData) → difference nodes a b ≡ Some form → FormNumbersFit form
 unfolding difference
 difference_fits nodes a b form e = of_readings (reading nodes a) (reading nodes b) form e
 
 -- a form with these parts
-pub with_parts : (form base : FormData) → form.parts ≡ base.parts → FormFits base → FitsSigned w128 form.constant → FormFits form
+pub with_parts : (form base : FormData) → form.parts ≡ base.parts → FormNumbersFit base → FitsSigned w128 form.constant → FormNumbersFit form
 with_parts form base e fits constant = (subst PartsFit (sym e) fits.0, constant)

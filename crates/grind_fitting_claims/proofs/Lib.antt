@@ -1,3 +1,10 @@
 pub mod FormsFit
 pub mod PolysFit
 pub mod RulesFit
+pub mod SumsExactly
+pub mod ReadingsAreForms
+pub mod EquationsAreForms
+pub mod DifferenceResults
+pub mod CombineResults
+pub mod MoreExactly
+pub mod IdealResults

@@ -1,11 +1,11 @@
 -- Polynomials that terms are read as fit.
-use Rattle.std.proofs.Common.{◌≡◌, ℕ, zero, suc, ◌+◌, ◌≤◌, ◌<◌, Bool, true, false, ltb, ◌^◌, ℤ, pos, negsuc, ◌+ℤ◌, ◌*ℤ◌, FitsSigned, List, [], ◌∷◌, ◌++◌, All, Result, Ok, Err, Option, Some, None, length, slice_get, refl, sym, ap, ◌∙◌, subst, lit<}
+use Rattle.std.proofs.Common.{◌≡◌, ℕ, zero, suc, ◌+◌, Bool, true, false, ltb, ◌^◌, ℤ, pos, negsuc, ◌+ℤ◌, ◌*ℤ◌, FitsSigned, List, [], ◌∷◌, ◌++◌, All, Result, Ok, Err, Option, Some, None, length, refl, ap, subst, lit<}
 use Rattle.std.specs.Prelude.{if◌then◌else◌}
 use Rattle.std.specs.Option.{option_and_then}
 use Rattle.std.specs.Int.{w128}
 use Rattle.std.proofs.lemmas.Bool.{ltb-true}
 use Rattle.std.proofs.lemmas.Option.{none-some, same_Some}
-use Rattle.std.proofs.lemmas.List.Elements.{All-nil, All-cons, All-head, All-tail, All-append, All-push}
+use Rattle.std.proofs.lemmas.List.Elements.{All-nil, All-cons, All-head, All-tail, All-push}
 use Rattle.grind_term_graph.specs.declared.head.Head.{Head}
 use Rattle.grind_term_graph.specs.declared.head.Head.TheVariants as head
 use Rattle.grind_term_graph.specs.declared.node.Node.{Node}
@@ -13,12 +13,12 @@ use Rattle.grind_monomials.specs.declared.order.Place.{Place}
 use Rattle.grind_monomials.specs.declared.order.Place.TheVariants.{Above, Same, Below}
 use Rattle.grind_monomials.specs.Order.{place}
 use Rattle.grind_monomials.specs.Monomials.{product}
-use Rattle.grind_reach.specs.Readings.{of_one, of_two, reading_of, found, readings, read_at}
+use Rattle.grind_reach.specs.Readings.{of_one, of_two, reading_of, found, readings}
 use Rattle.grind_polynomials.specs.declared.poly.PolyRefusal.{PolyRefusal}
 use Rattle.grind_polynomials.specs.declared.poly.PolyRefusal.TheVariants.{Degree, Overflow}
 use Rattle.grind_polynomials.specs.declared.poly.Term.{Term}
 use Rattle.grind_polynomials.specs.Polynomials.{term_of, fit_or_refuse, is_over, degree}
-use Rattle.grind_polynomials.specs.Sums.{and_then, signed, in_front, front, behind, more_beside, with_more, with_multiple, with_multiples, with_product, with_products, with_all_products, sum_product}
+use Rattle.grind_polynomials.specs.Sums.{and_then, signed, in_front, front, more_beside, with_more, with_multiple, with_multiples, with_product, with_products, with_all_products, sum_product}
 use Rattle.grind_polynomials.specs.Readings.{answered, number_poly, node_poly, sum_poly, negated_poly, product_poly, poly_operations, polynomial}
 use Rattle.grind_polynomials.proofs.Fits.{ok-err, same_Ok}
 use Rattle.grind_differences.specs.Differences.{is_number_sort, poly_reading, less_poly, poly_difference}
@@ -41,7 +41,7 @@ parts_of : {A B : Type 0} (f : A → Result B PolyRefusal) (r : Result A PolyRef
 parts_of {A} {B} f (Ok x) y e = (x, refl, e)
 parts_of {A} {B} f (Err refusal) y e = let wrong : Result B PolyRefusal = Err refusal in absurd (ok-err wrong y refusal e refl)
 
-is_fitting : (z y : ℤ) → fit_or_refuse z ≡ Ok y → FitsSigned w128 y
+pub is_fitting : (z y : ℤ) → fit_or_refuse z ≡ Ok y → FitsSigned w128 y
 unfolding fit_or_refuse
 is_fitting (pos n) y e = by_range (ltb n (2 ^ 127)) (pos n) y Overflow (λ low. record { sfits = ltb-true n (2 ^ 127) low }) e
   where

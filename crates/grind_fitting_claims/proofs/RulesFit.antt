@@ -1,25 +1,23 @@
 -- What a rule other than `combine` allows fits.
-use Rattle.std.proofs.Common.{◌≡◌, ℕ, suc, List, [], ◌∷◌, Bool, true, Option, Some, None, ℤ, pos, FitsSigned, length, refl, sym, ap, ◌∙◌, subst, inl, inr}
+use Rattle.std.proofs.Common.{◌≡◌, ℕ, suc, List, [], ◌∷◌, Bool, true, Option, pos, length, refl, sym, ap, subst, inl, inr}
 use Rattle.std.specs.Prelude.{IfSome}
-use Rattle.std.specs.Int.{w128}
 use Rattle.grind_term_graph.specs.declared.node.Node.{Node}
 use Rattle.grind_linear_forms.specs.Forms.{FormData}
-use Rattle.grind_polynomials.specs.declared.poly.Term.{Term}
 use Rattle.grind_differences.specs.Bounds.{plus}
 use Rattle.grind_claims.specs.declared.claim.Claim.{Claim}
 use Rattle.grind_claims.specs.declared.claim.Claim.TheVariants.{Holds, Fails, Same, Differ, AtMost, Zero, Absurd}
 use Rattle.grind_claims.specs.declared.proof.Rule.TheVariants as rules
 use Rattle.grind_truth_tables.specs.Tables.{IsTableRule}
 use Rattle.grind_arithmetic_rules.specs.LinearRules.{IsRead, IsStrict}
-use Rattle.grind_fitting_claims.specs.Fitting.{FormFits, ClaimFits, NumbersFit, AllowedFits}
+use Rattle.grind_fitting_claims.specs.Fitting.{FormNumbersFit, ClaimNumbersFit, AllowedFits}
 use Rattle.grind_fitting_claims.proofs.FormsFit.{difference_fits, with_parts}
 use Rattle.grind_fitting_claims.proofs.PolysFit.{poly_difference_fits}
 
 -- a claim that is known
-is_this : (claim known : Claim) → claim ≡ known → ClaimFits known → ClaimFits claim
-is_this claim known e fits = subst ClaimFits (sym e) fits
+is_this : (claim known : Claim) → claim ≡ known → ClaimNumbersFit known → ClaimNumbersFit claim
+is_this claim known e fits = subst ClaimNumbersFit (sym e) fits
 
-read_fits : (nodes : List Node) (premises : List Claim) (claim : Claim) → IsRead nodes premises claim → ClaimFits claim
+read_fits : (nodes : List Node) (premises : List Claim) (claim : Claim) → IsRead nodes premises claim → ClaimNumbersFit claim
 read_fits nodes premises claim h = is_this claim (AtMost h.1) h.2 (elim h.3 [
   | inl holds ↦ let sides = holds.1 in difference_fits nodes sides.0 sides.1 h.1 sides.3
   | inr fails ↦
@@ -29,9 +27,9 @@ read_fits nodes premises claim h = is_this claim (AtMost h.1) h.2 (elim h.3 [
       with_parts h.1 base.0 (ap (λ (form : FormData). form.parts) base.2) fits fails.2
 ])
 
-strict_fits : (nodes : List Node) (premises : List Claim) (claim : Claim) → IsStrict nodes premises claim → ClaimFits claim
+strict_fits : (nodes : List Node) (premises : List Claim) (claim : Claim) → IsStrict nodes premises claim → ClaimNumbersFit claim
 strict_fits nodes premises claim h =
-    let fits : FormFits h.2 = elim h.5 [
+    let fits : FormNumbersFit h.2 = elim h.5 [
       | inl e ↦ difference_fits nodes h.0 h.1 h.2 e
       | inr e ↦ difference_fits nodes h.1 h.0 h.2 e
     ] in
@@ -42,7 +40,7 @@ trues : (free : List ℕ) → (truths : List Bool) × (length truths ≡ length 
 trues [] = ([], refl)
 trues (n ∷ free) = let rest = trues free in (true ∷ rest.0, ap suc rest.1)
 
-table_fits : (nodes : List Node) (free : List ℕ) (premises : List Claim) (claim : Claim) → IsTableRule nodes free premises claim → ClaimFits claim
+table_fits : (nodes : List Node) (free : List ℕ) (premises : List Claim) (claim : Claim) → IsTableRule nodes free premises claim → ClaimNumbersFit claim
 table_fits nodes free premises (Holds n) h = tt
 table_fits nodes free premises (Fails n) h = tt
 table_fits nodes free premises (Same a b) h = tt
@@ -56,7 +54,7 @@ allowed_fits lemmas goal nodes literal (rules.Hyp i) premises claim numbers assu
 allowed_fits lemmas goal nodes literal rules.Negated premises claim numbers assumed exact h = is_this claim (Fails goal.show) h.1 tt
 allowed_fits lemmas goal nodes literal (rules.Inst t ids) premises claim numbers assumed exact h = is_this claim (Holds h.0) h.3 tt
 allowed_fits lemmas goal nodes literal rules.Branch premises claim numbers assumed exact h =
-    subst (λ (o : Option Claim). IfSome o ClaimFits) h.1 assumed
+    subst (λ (o : Option Claim). IfSome o ClaimNumbersFit) h.1 assumed
 allowed_fits lemmas goal nodes literal rules.Refl premises claim numbers assumed exact h = is_this claim (Same h.0 h.0) h.2 tt
 allowed_fits lemmas goal nodes literal rules.Sym premises claim numbers assumed exact h = is_this claim (Same h.1 h.0) h.3 tt
 allowed_fits lemmas goal nodes literal rules.Trans premises claim numbers assumed exact h = is_this claim (Same h.0 h.2) h.4 tt

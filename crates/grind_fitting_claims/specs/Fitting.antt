@@ -1,5 +1,5 @@
 -- Which claims fit in 128 bits.
-use Rattle.std.specs.Prelude.{ℕ, List, All, Option, IfSome, ℤ, FitsSigned, ⊤}
+use Rattle.std.specs.Prelude.{List, All, Option, IfSome, FitsSigned, ⊤}
 use Rattle.std.specs.Int.{w128}
 use Rattle.grind_term_graph.specs.declared.head.Head.{Head}
 use Rattle.grind_term_graph.specs.declared.head.Head.TheVariants as head
@@ -16,18 +16,18 @@ use Rattle.grind_arithmetic_rules.specs.PolyRules.{CoefficientsFit}
 use Rattle.grind_rules.specs.Rules.{RuleAllows}
 
 -- each number of the form fits
-abbrev pub FormFits : FormData → Type 0
-FormFits form = All (λ (part : Part). FitsSigned w128 part.coefficient) form.parts × FitsSigned w128 form.constant
+abbrev pub FormNumbersFit : FormData → Type 0
+FormNumbersFit form = All (λ (part : Part). FitsSigned w128 part.coefficient) form.parts × FitsSigned w128 form.constant
 
 -- each number of the claim fits
-abbrev pub ClaimFits : Claim → Type 0
-ClaimFits (AtMost form) = FormFits form
-ClaimFits (Zero poly) = CoefficientsFit poly
-ClaimFits (Holds n) = ⊤
-ClaimFits (Fails n) = ⊤
-ClaimFits (Same a b) = ⊤
-ClaimFits (Differ a b) = ⊤
-ClaimFits Absurd = ⊤
+abbrev pub ClaimNumbersFit : Claim → Type 0
+ClaimNumbersFit (AtMost form) = FormNumbersFit form
+ClaimNumbersFit (Zero poly) = CoefficientsFit poly
+ClaimNumbersFit (Holds n) = ⊤
+ClaimNumbersFit (Fails n) = ⊤
+ClaimNumbersFit (Same a b) = ⊤
+ClaimNumbersFit (Differ a b) = ⊤
+ClaimNumbersFit Absurd = ⊤
 
 -- a number fits
 abbrev pub HeadFits : Head → Type 0
@@ -81,4 +81,4 @@ IsExact rules.Clash = ⊤
 abbrev pub AllowedFits : Type 0
 AllowedFits =
     (lemmas : Lemmas) (goal : GoalData) (nodes : List Node) (literal : Option Claim) (rule : Rule) (premises : List Claim) (claim : Claim) →
-    NumbersFit nodes → IfSome literal ClaimFits → IsExact rule → RuleAllows lemmas goal nodes literal rule premises claim → ClaimFits claim
+    NumbersFit nodes → IfSome literal ClaimNumbersFit → IsExact rule → RuleAllows lemmas goal nodes literal rule premises claim → ClaimNumbersFit claim

@@ -1,11 +1,52 @@
 //! Which claims fit in 128 bits: over terms whose numbers fit, what a rule other than `combine` allows fits. So where the result of
-//! such a rule does not fit, the rule allows no claim.
+//! such a rule does not fit, the rule allows no claim. And which claim a rule that computes would allow over whole numbers without
+//! bounds, its result: the rule allows a claim exactly where there is a result and each number on the way to it fits, and that claim
+//! is the result, or for `combine` also a weaker one.
 #![tactic(auto)]
 
 ghost use Rattle.grind_fitting_claims.specs.Fitting.{AllowedFits};
+ghost use Rattle.grind_fitting_claims.specs.PolyResults.{IdealAllowsItsResult};
+ghost use Rattle.grind_fitting_claims.specs.Results.{DifferencesAreExact, LineAllowsItsResult, ReadAllowsItsResult, StrictAllowsItsResult, CombineAllowsItsResult};
+
+use grind_lemmas::products_cancel;
+use grind_linear_forms::one_cut;
 
 /// Over terms whose numbers fit, in a branch whose literal fits, what a rule other than `combine` allows fits. The law is a call
 /// without a body: its caller knows it.
 pub fn allowed_fits()
     ensures { AllowedFits }
 {}
+
+/// The difference of the readings of two terms is defined exactly where both are and each number on the way to it fits.
+pub fn differences_are_exact()
+    ensures { DifferencesAreExact }
+{}
+
+/// `line` allows exactly its result, where that fits: the difference of two equal whole numbers is at most 0.
+pub fn line_allows_its_result()
+    ensures { LineAllowsItsResult }
+{}
+
+/// `read` allows exactly its result, where that fits: the bound that a comparison is.
+pub fn read_allows_its_result()
+    ensures { ReadAllowsItsResult }
+{}
+
+/// `strict` allows exactly its result, where that fits: the bound of its premise, and 1.
+pub fn strict_allows_its_result()
+    ensures { StrictAllowsItsResult }
+{}
+
+/// `combine` allows exactly its result and each bound with a lower constant, where each number on the way fits.
+pub fn combine_allows_its_result()
+    ensures { CombineAllowsItsResult }
+{
+    one_cut();
+}
+
+/// `ideal` allows exactly its result, where each number on the way fits and each quotient does.
+pub fn ideal_allows_its_result()
+    ensures { IdealAllowsItsResult }
+{
+    products_cancel();
+}

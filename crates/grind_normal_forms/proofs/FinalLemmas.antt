@@ -22,7 +22,7 @@ use Rattle.grind_polynomials.specs.Sums.{signed}
 use Rattle.grind_normal_forms.specs.Pairs.{divided_by, lead_coefficient, lead_monomial}
 use Rattle.grind_normal_forms.specs.Reduction.{reduced_of, is_one, is_negative, reducer, Target, target_of, target, unit, weight, Steps, Reduces, irreducible, step, overflow, IsContent}
 use Rattle.grind_normal_forms.specs.Gathering.{Move, move_of, factors_moved, no_factors, Gathers, ended, moved, spilt, has_terms, factors_by, IsFactors, Spills}
-use Rattle.grind_normal_forms.specs.FinalFactors.{MovesBy, Moves, none_left, one_more, units, reduced_terms, shared_out, IsFinal, AllFit, FactorsFit, Exceeds, FactorsOverflow, ArePolys}
+use Rattle.grind_normal_forms.specs.FinalFactors.{MovesBy, Moves, none_left, one_more, units, reduced_terms, shared_out, IsFinal, AllFit, FactorNumbersFit, Exceeds, FactorsOverflow, ArePolys}
 use Rattle.grind_polynomials.proofs.Fits.{ok-err, same_Ok}
 use Rattle.grind_normal_forms.proofs.Divisors.{weight-times_lead}
 use Rattle.grind_normal_forms.proofs.ReductionLemmas.{reducer-none, reducer-cons, target-none, target-here, target-later, unit-nonzero, poly-rest}
@@ -134,12 +134,12 @@ final-one basis p one other first second =
     ∙ sym second.factors_are
 
 -- where there are factors that fit, nothing overflows
-pub none-overflows : (basis : List (List Term)) (p : List Term) (factors : Factors) → IsFinal basis p factors → FactorsFit factors
+pub none-overflows : (basis : List (List Term)) (p : List Term) (factors : Factors) → IsFinal basis p factors → FactorNumbersFit factors
     → FactorsOverflow basis p → ⊥
 none-overflows basis p factors final fits overflows = elim overflows [
   | inl breaks ↦ ok-err (Ok final.made) final.made Overflow refl
       (reduces-one basis (reduced_of (pos 1) p) (Ok final.made) (Err Overflow) final.made_is breaks)
-  | inr exceeds ↦ exceeds.over (subst FactorsFit (final-one basis p factors exceeds.factors final exceeds.final_is) fits)
+  | inr exceeds ↦ exceeds.over (subst FactorNumbersFit (final-one basis p factors exceeds.factors final exceeds.final_is) fits)
 ]
 
 -- ---- along the steps
@@ -289,7 +289,7 @@ module _ (basis : List (List Term)) (polys : ArePolys basis) (some : All (λ b. 
 
   -- and they fit
   pub final-fits : (p : List Term) (factors : Factors) → IsPoly p → IsFactors basis p factors → fit_or_refuse factors.divisor ≡ Ok factors.divisor
-      → fit_or_refuse factors.own ≡ Ok factors.own → FactorsFit factors
+      → fit_or_refuse factors.own ≡ Ok factors.own → FactorNumbersFit factors
   final-fits p factors poly one divisor own =
       let moves = moves-made basis (has_terms one.made.rest) (reduced_of (pos 1) p) (Ok one.made) one.made one.made_is refl in
       let answers = from-start (has_terms one.made.rest) p (Ok one.gathered) moves.0 poly one.gathered_is moves.1 in
@@ -320,7 +320,7 @@ module _ (basis : List (List Term)) (polys : ArePolys basis) (some : All (λ b. 
           | inl gathers ↦ from-start left p (Err Overflow) moves.0 poly gathers moves.1
               (subst AllFit (list-is spills.made spills.content list left) fits.list)
           | inr divisor ↦
-              let fits_by : FactorsFit (factors_by spills.made spills.content list true) = subst (λ (some_left : Bool). FactorsFit (factors_by spills.made spills.content list some_left)) divisor.0 fits in
+              let fits_by : FactorNumbersFit (factors_by spills.made spills.content list true) = subst (λ (some_left : Bool). FactorNumbersFit (factors_by spills.made spills.content list some_left)) divisor.0 fits in
               ok-err (fit_or_refuse (pos spills.content)) (pos spills.content) Overflow fits_by.divisor divisor.1
         ];
       }

@@ -73,7 +73,7 @@ AllFit [] = ⊤
 AllFit (q ∷ qs) = EachFits q × AllFit qs
 
 -- each number in the factors fits
-pub record FactorsFit (factors : Factors) : Type 0 where
+pub record FactorNumbersFit (factors : Factors) : Type 0 where
   pub divisor : fit_or_refuse factors.divisor ≡ Ok factors.divisor
   pub own : fit_or_refuse factors.own ≡ Ok factors.own
   pub list : AllFit factors.list
@@ -82,7 +82,7 @@ pub record FactorsFit (factors : Factors) : Type 0 where
 pub record Exceeds (basis : List (List Term)) (p : List Term) : Type 0 where
   pub factors : Factors
   pub final_is : IsFinal basis p factors
-  pub over : FactorsFit factors → ⊥
+  pub over : FactorNumbersFit factors → ⊥
 
 -- a coefficient on the way to the normal form does not fit, or a number in the final factors does not
 abbrev pub FactorsOverflow : List (List Term) → List Term → Type 0

@@ -39,7 +39,7 @@ pub fn factors_of(alloc: Global, p: &Poly, basis: &List<Poly>) -> Result<Factors
     requires { All (λ b. b ≢ []) basis.now }
     ensures ok { IfOk result (λ factors. gathering.IsFactors basis.now p.now factors) }
     ensures exact { IfOk result (λ factors. whole.IsFinal basis.now p.now factors) }
-    ensures fits { IfOk result (λ factors. whole.FactorsFit factors) }
+    ensures fits { IfOk result (λ factors. whole.FactorNumbersFit factors) }
     ensures within { IfOk result (λ factors. whole.FactorsOverflow basis.now p.now → ⊥) }
     ensures overflow { IsErrOf result PolyRefusal.Overflow → whole.FactorsOverflow basis.now p.now }
     ensures degree { IsErrOf result PolyRefusal.Degree → ⊥ }

@@ -19,7 +19,7 @@ use Rattle.grind_proof_kernel.specs.Literals.{IsLiteral, AreOpposite}
 use Rattle.grind_proof_kernel.specs.Typing.{IsTypedAs, IsPairOf, IsParent, IsFirst, IsSecond, IsInPair, branch_at, parent_of, begin_of, literal_of}
 use Rattle.grind_proof_kernel.specs.Laws.{Extends, TypedLinesStay}
 use Rattle.grind_proof_writer.specs.Lines.{AreTyped}
-use Rattle.grind_proof_writer.specs.Branches.{IsOpen, IsPlacedSoFar, IsChild, IsSplit, with_pair}
+use Rattle.grind_proof_writer.specs.Branches.{IsOpen, IsPlacedSoFar, IsChild, SplitsLeaf, with_pair}
 use Rattle.grind_proof_writer.specs.Laws.{PairKeepsGood}
 use Rattle.grind_proof_writer.proofs.ListLemmas.{some_item, some_is, within_some, behind_first, behind_second, all_some}
 use Rattle.grind_proof_writer.proofs.ClosingLemmas.{IsElsewhere, unclosed_empty}
@@ -238,7 +238,7 @@ module _ (proof : Proof) (parent m : ℕ) (one other : Claim) (places : ArePlace
         reaches = λ up way. reaches_child proof.branches pair up parent child its_parent (omega arith) way;
       }
 
-  pub split_kept : IsSplit proof new parent one other
+  pub split_kept : SplitsLeaf proof new parent one other
   split_kept = record {
     is = refl;
     parent_is = (m, is_pair);

@@ -71,7 +71,7 @@ pub record IsChild (old new : Proof) (parent child : ℕ) (literal : Claim) : Ty
   pub reaches : (above : ℕ) → Reaches old.branches above parent → Reaches new.branches above child
 
 -- the new proof has a pair below this branch, the two branches behind all others, and nothing else is changed
-pub record IsSplit (old new : Proof) (parent : ℕ) (one other : Claim) : Type 0 where
+pub record SplitsLeaf (old new : Proof) (parent : ℕ) (one other : Claim) : Type 0 where
   pub is : new ≡ with_pair old parent one other
   pub parent_is : IsParent new.branches parent
   pub first : IsChild old new parent (length old.branches + 1) one
@@ -80,4 +80,4 @@ pub record IsSplit (old new : Proof) (parent : ℕ) (one other : Claim) : Type 0
 
 -- the same, by a literal and its opposite
 abbrev pub IsSplitBy : Proof → Proof → ℕ → Claim → Type 0
-IsSplitBy old new parent literal = (other : Claim) × AreOpposite literal other × IsSplit old new parent literal other
+IsSplitBy old new parent literal = (other : Claim) × AreOpposite literal other × SplitsLeaf old new parent literal other

@@ -10,7 +10,7 @@ use Rattle.grind_proof_kernel.specs.Literals.{IsLiteral, AreOpposite}
 use Rattle.grind_proof_kernel.specs.Typing.{HasTerms, IsBranch, IsClosed, Typed}
 use Rattle.grind_proof_kernel.specs.Laws.{Extends}
 use Rattle.grind_proof_writer.specs.Lines.{IsReady, Tells, Appends, EndsWith}
-use Rattle.grind_proof_writer.specs.Branches.{IsLeaf, IsGoodSoFar, IsFinished, KeepsOthers, IsSplit, with_pair}
+use Rattle.grind_proof_writer.specs.Branches.{IsLeaf, IsGoodSoFar, IsFinished, KeepsOthers, SplitsLeaf, with_pair}
 
 -- a proof is typed exactly where it is good so far and each of its branches ends
 abbrev pub FinishedIsTyped : Type 0
@@ -37,7 +37,7 @@ PairKeepsGood =
     (lemmas : Lemmas) (goal : GoalData) (proof : Proof) (parent : ℕ) (one other : Claim) → IsGoodSoFar lemmas goal proof →
     IsLeaf proof.branches parent → IsLiteral one → IsFormed proof.terms.nodes one → AreOpposite one other →
     IsGoodSoFar lemmas goal (with_pair proof parent one other)
-    × IsSplit proof (with_pair proof parent one other) parent one other
+    × SplitsLeaf proof (with_pair proof parent one other) parent one other
 
 -- a branch that has the last line is closed exactly where that line claims a contradiction
 abbrev pub AbsurdCloses : Type 0

@@ -18,7 +18,7 @@ use Rattle.grind_claims.specs.declared.proof.Proof.{Proof}
 use Rattle.grind_signature.specs.Signatures.{Function, SignatureData, IsDeclaredAs, IsDeclared}
 use Rattle.grind_report.specs.Report.{Closed, TermFits, BranchFits, LineFits, IsShort, BlockFits}
 use Rattle.grind_report.specs.Naming.{constant_name, function_name, term_of_head, term_of, HeadNamed, HasTerm, raw_of}
-use Rattle.grind_report.specs.Blocks.{node_of, StandsFor, ProofOf, IsPrintable}
+use Rattle.grind_report.specs.Blocks.{node_of, NamesNode, ProofOf, IsPrintable}
 
 same_node : (head : Head) (s t : ℕ) (as' bs : List ℕ) → s ≡ t → as' ≡ bs → node_of head s as' ≡ node_of head t bs
 same_node head s t as' bs e1 e2 = ap (λ (x : ℕ). node_of head x as') e1 ∙ ap (λ (x : List ℕ). node_of head t x) e2
@@ -77,7 +77,7 @@ function_name_is signature number function e = ap (λ (o : Option Function). unw
 -- and the term stands for the node
 stands_for_head : (signature : SignatureData) (constants : List Constant) (nodes before : List Node) (head : Head) (sort : ℕ) (args : List ℕ)
     → IsShaped head sort (map (sort_at before) args) → IsDeclaredAs signature constants nodes (node_of head sort args) head
-    → StandsFor signature constants nodes (term_of_head signature constants args head) (node_of head sort args)
+    → NamesNode signature constants nodes (term_of_head signature constants args head) (node_of head sort args)
 stands_for_head signature constants nodes before heads.True sort args shape declared =
     same_node heads.True sort prop args [] shape.0 (no_args (sort_at before) args shape.1)
 stands_for_head signature constants nodes before heads.False sort args shape declared =
@@ -136,7 +136,7 @@ all_have_terms signature constants nodes table declared =
     (have_terms signature constants nodes [] nodes table (recursion_from_All (IsDeclared signature constants nodes) nodes declared))
 
 all_stand : (signature : SignatureData) (constants : List Constant) (nodes before rest : List Node) → IsTable before rest
-    → AllByRecursion (IsDeclared signature constants nodes) rest → AllZip (StandsFor signature constants nodes) (map (term_of signature constants) rest) rest
+    → AllByRecursion (IsDeclared signature constants nodes) rest → AllZip (NamesNode signature constants nodes) (map (term_of signature constants) rest) rest
 all_stand signature constants nodes before [] table declared = tt
 all_stand signature constants nodes before (node ∷ rest) table declared = (
   stands_for_head signature constants nodes before node.head node.sort node.args table.0.1 declared.0,

@@ -22,26 +22,26 @@ node_of head sort args = record { head = head; sort = sort; args = args }
 
 -- the term names this node: a constant of that name, a declared function of that name at arguments of its sorts, or a
 -- truth, a connective, an equation, an order, a whole number or an operation on whole numbers
-abbrev pub StandsFor : SignatureData → List Constant → List Node → RawTerm → Node → Type 0
-StandsFor signature constants nodes True node = node ≡ node_of heads.True prop []
-StandsFor signature constants nodes False node = node ≡ node_of heads.False prop []
-StandsFor signature constants nodes (Const name) node =
+abbrev pub NamesNode : SignatureData → List Constant → List Node → RawTerm → Node → Type 0
+NamesNode signature constants nodes True node = node ≡ node_of heads.True prop []
+NamesNode signature constants nodes False node = node ≡ node_of heads.False prop []
+NamesNode signature constants nodes (Const name) node =
     (number : ℕ) × (constant : Constant) × (slice_get constants number ≡ Some constant) × (name ≡ constant.name)
     × (node ≡ node_of (heads.Const number) constant.sort [])
-StandsFor signature constants nodes (Fun name args) node =
+NamesNode signature constants nodes (Fun name args) node =
     (number : ℕ) × (function : Function) × (slice_get signature.functions number ≡ Some function) × (name ≡ function.name)
     × (map (sort_at nodes) args ≡ map Some function.args)
     × (node ≡ node_of (heads.Fun number) function.result args)
-StandsFor signature constants nodes (Int value) node = node ≡ node_of (heads.Int value) int []
-StandsFor signature constants nodes (Not a) node = node ≡ node_of heads.Not prop (a ∷ [])
-StandsFor signature constants nodes (And a b) node = node ≡ node_of heads.And prop (a ∷ b ∷ [])
-StandsFor signature constants nodes (Or a b) node = node ≡ node_of heads.Or prop (a ∷ b ∷ [])
-StandsFor signature constants nodes (Implies a b) node = node ≡ node_of heads.Implies prop (a ∷ b ∷ [])
-StandsFor signature constants nodes (Eq a b) node = node ≡ node_of heads.Eq prop (a ∷ b ∷ [])
-StandsFor signature constants nodes (Le a b) node = node ≡ node_of heads.Le prop (a ∷ b ∷ [])
-StandsFor signature constants nodes (Add a b) node = node ≡ node_of heads.Add int (a ∷ b ∷ [])
-StandsFor signature constants nodes (Neg a) node = node ≡ node_of heads.Neg int (a ∷ [])
-StandsFor signature constants nodes (Mul a b) node = node ≡ node_of heads.Mul int (a ∷ b ∷ [])
+NamesNode signature constants nodes (Int value) node = node ≡ node_of (heads.Int value) int []
+NamesNode signature constants nodes (Not a) node = node ≡ node_of heads.Not prop (a ∷ [])
+NamesNode signature constants nodes (And a b) node = node ≡ node_of heads.And prop (a ∷ b ∷ [])
+NamesNode signature constants nodes (Or a b) node = node ≡ node_of heads.Or prop (a ∷ b ∷ [])
+NamesNode signature constants nodes (Implies a b) node = node ≡ node_of heads.Implies prop (a ∷ b ∷ [])
+NamesNode signature constants nodes (Eq a b) node = node ≡ node_of heads.Eq prop (a ∷ b ∷ [])
+NamesNode signature constants nodes (Le a b) node = node ≡ node_of heads.Le prop (a ∷ b ∷ [])
+NamesNode signature constants nodes (Add a b) node = node ≡ node_of heads.Add int (a ∷ b ∷ [])
+NamesNode signature constants nodes (Neg a) node = node ≡ node_of heads.Neg int (a ∷ [])
+NamesNode signature constants nodes (Mul a b) node = node ≡ node_of heads.Mul int (a ∷ b ∷ [])
 
 -- how many nodes the table of a proof that was read may hold
 abbrev pub widest : ℕ
@@ -49,7 +49,7 @@ widest = 2 ^ 32 - 1
 
 -- no term of the block is bad, and this is the proof that it spells
 pub record ProofOf (signature : SignatureData) (goal : GoalData) (raw : RawProof) (proof : Proof) : Type 0 where
-  pub terms : AllZip (StandsFor signature goal.constants proof.terms.nodes) raw.terms proof.terms.nodes
+  pub terms : AllZip (NamesNode signature goal.constants proof.terms.nodes) raw.terms proof.terms.nodes
   pub table : IsTable [] proof.terms.nodes
   pub front : HasTerms goal proof
   pub limit : proof.terms.limit ≡ widest

@@ -8,7 +8,7 @@ use Rattle.std.specs.Str.{StartsWithNoChar}
 use Rattle.std.specs.Str.Parse.{digits_value_after}
 use Rattle.grind_tokens.specs.declared.tokens.TokenKind.TheVariants.{Word}
 use Rattle.grind_tokens.specs.Tokens.{IsBlank, IsNameChar, IsCommentChar, StopsChars, EndsLine, AreNameChars, IsBrokenComment, IsLongName}
-use Rattle.grind_tokens.specs.Fronts.{Runs, BeginsWith, BeginsName}
+use Rattle.grind_tokens.specs.Fronts.{Runs, BeginsWithFront, BeginsName}
 use Rattle.grind_tokens.proofs.CharacterLemmas.{drop-character}
 
 -- more digits make no smaller number
@@ -23,7 +23,7 @@ pub runs-rest : (P : ℕ → Type 0) (text : List ℕ) (n : ℕ) → (r : Runs P
 runs-rest P text n r = ap (λ k. drop k text) r.size ∙ ap (λ l. drop (length r.piece) l) r.splits ∙ drop-append_seam r.piece r.rest
 
 -- a comment that ends its line
-pub comment_front : (body : List ℕ) (n : ℕ) → Runs IsCommentChar body n → EndsLine (drop n body) → BeginsWith (45 ∷ 45 ∷ body) (record { kind = None; len = n + 2 })
+pub comment_front : (body : List ℕ) (n : ℕ) → Runs IsCommentChar body n → EndsLine (drop n body) → BeginsWithFront (45 ∷ 45 ∷ body) (record { kind = None; len = n + 2 })
 comment_front body n r ends = record {
   piece = 45 ∷ 45 ∷ r.piece;
   rest = r.rest;
@@ -79,7 +79,7 @@ named text c n b r =
       size = omega (arith, length-append (encode_utf8 c) r.piece, length-encode c, r.size);
     }
 
-pub word_front : (text : List ℕ) (n : ℕ) → Named text n → n ≤ 255 → BeginsWith text (record { kind = Some Word; len = n })
+pub word_front : (text : List ℕ) (n : ℕ) → Named text n → n ≤ 255 → BeginsWithFront text (record { kind = Some Word; len = n })
 word_front text n m short = record {
   piece = m.piece;
   rest = m.rest;
@@ -99,7 +99,7 @@ word_fault text n m long = record {
 }
 
 -- a byte of white space
-pub blank_front : (text : List ℕ) → 0 < length text → IsBlank (get_or text 0 0) → BeginsWith text (record { kind = None; len = 1 })
+pub blank_front : (text : List ℕ) → 0 < length text → IsBlank (get_or text 0 0) → BeginsWithFront text (record { kind = None; len = 1 })
 blank_front [] some blank = absurd (omega arith)
 blank_front (b ∷ bs) some blank = record {
   piece = b ∷ [];

@@ -12,7 +12,7 @@ use Rattle.grind_tokens.specs.declared.tokens.TokenKind.TheVariants.{Word, Numbe
 use Rattle.grind_tokens.specs.declared.tokens.Token.{Token}
 use Rattle.grind_tokens.specs.declared.pieces.Front.{Front}
 use Rattle.grind_tokens.specs.Tokens.{IsToken, IsFault, TokensFrom, at_end, gap, token, TokensOf, BreaksFrom, here, Breaks, IsRefusal, IsSpelled, IsPiece}
-use Rattle.grind_tokens.specs.Fronts.{BeginsWith, tokens_of}
+use Rattle.grind_tokens.specs.Fronts.{BeginsWithFront, tokens_of}
 use Rattle.grind_tokens.proofs.Readings.{front_not_empty, reads_front, breaks_front}
 
 -- what is read of a text so far: the tokens out, up to an offset, and the bytes from there on
@@ -25,17 +25,17 @@ pub reads_start : (text : List ℕ) → Reads text [] 0 text
 reads_start text = record { offset = omega arith; whole = λ ts t. t; breaks = λ e t. t }
 
 -- a piece has a byte, and not more than the text
-pub front-some : (text : List ℕ) (f : Front) → BeginsWith text f → 0 < f.len
+pub front-some : (text : List ℕ) (f : Front) → BeginsWithFront text f → 0 < f.len
 front-some text f b = let some = front_not_empty f.kind b.piece b.rest b.front in omega (arith, b.size)
 
-pub front-within : (text : List ℕ) (f : Front) → BeginsWith text f → f.len ≤ length text
+pub front-within : (text : List ℕ) (f : Front) → BeginsWithFront text f → f.len ≤ length text
 front-within text f b = omega (arith, b.size, ap length b.splits, length-append b.piece b.rest)
 
 -- what stands behind it
-front-rest : (text : List ℕ) (f : Front) → (b : BeginsWith text f) → drop f.len text ≡ b.rest
+front-rest : (text : List ℕ) (f : Front) → (b : BeginsWithFront text f) → drop f.len text ≡ b.rest
 front-rest text f b = ap (λ n. drop n text) b.size ∙ ap (λ l. drop (length b.piece) l) b.splits ∙ drop-append_seam b.piece b.rest
 
-pub reads_more : (text : List ℕ) (out : List Token) (at : ℕ) (rest : List ℕ) (f : Front) → Reads text out at rest → BeginsWith rest f → Reads text (out ++ tokens_of f.kind at (at + f.len)) (at + f.len) (drop f.len rest)
+pub reads_more : (text : List ℕ) (out : List Token) (at : ℕ) (rest : List ℕ) (f : Front) → Reads text out at rest → BeginsWithFront rest f → Reads text (out ++ tokens_of f.kind at (at + f.len)) (at + f.len) (drop f.len rest)
 reads_more text out at rest f before b =
     let behind = front-rest rest f b in
     record {

@@ -17,7 +17,7 @@ use Rattle.grind_tokens.specs.declared.tokens.TokenKind.TheVariants.{Number, Sym
 use Rattle.grind_tokens.specs.declared.tokens.Token.{Token}
 use Rattle.grind_tokens.specs.Tokens.{IsBlank, IsNameStart, IsNameChar, IsDigit, IsCommentChar, Begins, Stops, StopsChars, EndsLine, IsLongest, spelling, dashes, IsFault, TokensFrom, at_end, BreaksFrom, here}
 use Rattle.grind_tokens.specs.declared.pieces.Front.{Front}
-use Rattle.grind_tokens.specs.Fronts.{IsFront, Runs, BeginsWith, BeginsName, tokens_of}
+use Rattle.grind_tokens.specs.Fronts.{IsFront, Runs, BeginsWithFront, BeginsName, tokens_of}
 use Rattle.grind_tokens.proofs.CharacterLemmas.{encode-bounds, begins_through, begins_take, no_character-nil, stops_none, stops_other, runs_more, runs_end}
 use Rattle.grind_tokens.proofs.PieceLemmas.{comment_front, comment_fault, named, word_front, word_fault}
 use Rattle.grind_tokens.proofs.SymbolChoice.{starts, longest}
@@ -126,7 +126,7 @@ data Outcome (at : ℕ) (text : List ℕ) : Type 0 where
   piece : (kind : Option TokenKind) (p r : List ℕ) → text ≡ p ++ r → IsFront kind p r → Outcome at text
   fault : (e : LexRefusal) → IsFault at text e → Outcome at text
 
-of_front : {f : Front} (at : ℕ) (text : List ℕ) → BeginsWith text f → Outcome at text
+of_front : {f : Front} (at : ℕ) (text : List ℕ) → BeginsWithFront text f → Outcome at text
 of_front {f} at text b = piece f.kind b.piece b.rest b.splits b.front
 
 comment_step : (at : ℕ) (body : List ℕ) → Outcome at (45 ∷ 45 ∷ body)

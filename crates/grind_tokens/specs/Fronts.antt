@@ -28,7 +28,7 @@ IsFront None piece rest = IsGap piece rest
 IsFront (Some kind) piece rest = IsToken kind piece rest
 
 -- the text begins with such a piece of that length
-pub record BeginsWith (text : List ℕ) (f : Front) : Type 0 where
+pub record BeginsWithFront (text : List ℕ) (f : Front) : Type 0 where
   pub piece : List ℕ
   pub rest : List ℕ
   pub splits : text ≡ piece ++ rest

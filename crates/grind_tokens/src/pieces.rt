@@ -4,7 +4,7 @@ ghost use Rattle.std.specs.Char.{digit_value};
 ghost use Rattle.std.specs.List.{AllByRecursion};
 ghost use Rattle.std.specs.Str.Parse.{digits_value};
 ghost use Rattle.grind_tokens.specs.Tokens.{IsBlank, IsDigit, IsNameStart, Stops, StopsChars, EndsLine, Begins, dashes, IsFault};
-ghost use Rattle.grind_tokens.specs.Fronts.{BeginsName, BeginsWith};
+ghost use Rattle.grind_tokens.specs.Fronts.{BeginsName, BeginsWithFront};
 
 use crate::characters::{Run, name_start, run_len};
 use crate::symbols::{longest_symbol, symbol_len};
@@ -47,7 +47,7 @@ fn ends_line(text: &[u8]) -> bool
 // The comment of which the bytes behind its two minus signs are given.
 fn comment_at(body: &[u8], at: u32) -> Result<Front, LexRefusal>
     requires { at + (2 + length body.now) < 2 ^ 32 }
-    ensures ok { IfOk result (BeginsWith (dashes ++ body.now)) }
+    ensures ok { IfOk result (BeginsWithFront (dashes ++ body.now)) }
     ensures refused { IfErr result (IsFault at (dashes ++ body.now)) }
 {
     let len = run_len(Run::Comment, body);
@@ -66,7 +66,7 @@ fn comment_at(body: &[u8], at: u32) -> Result<Front, LexRefusal>
 // The name at the front of a text that begins with a character.
 fn word_at(text: &[u8], first: char, at: u32) -> Result<Front, LexRefusal>
     requires { BeginsName text.now first }
-    ensures ok { IfOk result (BeginsWith text.now) }
+    ensures ok { IfOk result (BeginsWithFront text.now) }
     ensures refused { IfErr result (IsFault at text.now) }
 {
     let size = first.len_utf8();
@@ -128,7 +128,7 @@ fn digit_count(text: &[u8]) -> usize
 fn number_at(text: &[u8], at: u32) -> Result<Front, LexRefusal>
     requires some { 0 < length text.now }
     requires digit { ¬ Stops IsDigit text.now }
-    ensures ok { IfOk result (BeginsWith text.now) }
+    ensures ok { IfOk result (BeginsWithFront text.now) }
     ensures refused { IfErr result (IsFault at text.now) }
 {
     let len = digit_count(text);
@@ -149,7 +149,7 @@ fn symbol_at(text: &[u8], at: u32) -> Result<Front, LexRefusal>
     requires no_name { StopsChars IsNameStart text.now }
     requires no_number { Stops IsDigit text.now }
     requires no_comment { ¬ Begins text.now dashes }
-    ensures ok { IfOk result (BeginsWith text.now) }
+    ensures ok { IfOk result (BeginsWithFront text.now) }
     ensures refused { IfErr result (IsFault at text.now) }
 {
     let Some(symbol) = longest_symbol(text) else {
@@ -168,7 +168,7 @@ fn word_or_symbol_at(text: &[u8], at: u32) -> Result<Front, LexRefusal>
     requires no_blank { Stops IsBlank text.now }
     requires no_number { Stops IsDigit text.now }
     requires no_comment { ¬ Begins text.now dashes }
-    ensures ok { IfOk result (BeginsWith text.now) }
+    ensures ok { IfOk result (BeginsWithFront text.now) }
     ensures refused { IfErr result (IsFault at text.now) }
 {
     if let Some(first) = name_start(text) {
@@ -181,7 +181,7 @@ fn word_or_symbol_at(text: &[u8], at: u32) -> Result<Front, LexRefusal>
 pub(crate) fn first_front(text: &[u8], at: u32) -> Result<Front, LexRefusal>
     requires some { 0 < length text.now }
     requires within { at + length text.now < 2 ^ 32 }
-    ensures ok { IfOk result (BeginsWith text.now) }
+    ensures ok { IfOk result (BeginsWithFront text.now) }
     ensures refused { IfErr result (IsFault at text.now) }
 {
     match text {

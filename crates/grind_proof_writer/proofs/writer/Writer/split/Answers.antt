@@ -2,7 +2,7 @@ use Rattle.std.specs.Prelude.{◌≡◌, ℕ}
 use Rattle.std.proofs.Common.{sym, ap, ◌∙◌, subst}
 use Rattle.grind_claims.specs.declared.claim.Claim.{Claim}
 use Rattle.grind_claims.specs.declared.proof.Proof.{Proof}
-use Rattle.grind_proof_writer.specs.Branches.{IsGoodSoFar, IsSplit, with_branches, with_pair}
+use Rattle.grind_proof_writer.specs.Branches.{IsGoodSoFar, SplitsLeaf, with_branches, with_pair}
 use Rattle.grind_proof_writer.proofs.writer.Writer.split.Goals as goal
 
 pub returns-clause-good : goal.returns-clause-good
@@ -27,7 +27,7 @@ returns-clause-pair c =
     (record { parent = writer.branch; after = n; literal = other })) c.len-after.ensures.value in (
       other,
       c.in_ok-other.ensures,
-      subst (λ (new : Proof). IsSplit c.args.proof.now new writer.branch c.args.literal other) (sym is)
+      subst (λ (new : Proof). SplitsLeaf c.args.proof.now new writer.branch c.args.literal other) (sym is)
           (c.pair_keeps_good.ensures writer.lemmas.now writer.goal.now c.args.proof.now writer.branch c.args.literal other c.requires.good
           c.requires.leaf c.requires.literal c.requires.formed c.in_ok-other.ensures).1,
     )
