@@ -37,6 +37,8 @@ FILES = {
     "grind_ematch": ["Matches"],
     "grind_truth_prop": ["Kernel", "Given", "Evidence", "Classed", "Sides", "Equations", "Connectives", "Splits", "Steps", "Laws"],
     "grind_cutsat_facts": ["Facts", "Covering"],
+    "grind_cutsat_bounds": ["Evaluations", "Bounds", "Nearest", "Choices"],
+    "grind_cutsat_assignment": ["Given", "Assignments", "Laws"],
     "grind_scenes": ["Scenes", "Formulas"],
     "grind_case_split": ["Congruences", "Writing", "Building", "Given", "Laws"],
     "grind_value_tables": ["Respects", "Truths", "Evaluations", "Overflows", "Laws"],

@@ -1,0 +1,3 @@
+pub mod EvaluationLemmas
+pub mod LimitLemmas
+pub mod ChoiceLemmas
