@@ -1,0 +1,256 @@
+-- What marks say, fact by fact and pair by pair.
+use Rattle.std.proofs.Common.{◌≡◌, ◌⊎◌, inl, inr, ℕ, ◌+◌, ◌<◌, ◌≤◌, Bool, IsTrue, List, [], ◌∷◌, length, Contains, Option, Some, None, MatchOption, nat_lt, arith, sym, refl, subst}
+use Rattle.std.proofs.lemmas.Bool.{cases_Bool, ltb-true, ltb-false}
+use Rattle.grind_ring_basis.specs.declared.types.Fact.{Fact}
+use Rattle.grind_ring_basis.specs.declared.types.Places.{Places}
+use Rattle.grind_ring_units.specs.declared.types.State.{State}
+use Rattle.grind_ring_units.specs.declared.findings.Finding.{Finding}
+use Rattle.grind_ring_units.specs.declared.findings.Finding.TheVariants as finding
+use Rattle.grind_ring_units.specs.declared.findings.Marks.{Marks}
+use Rattle.grind_ring_units.specs.declared.findings.Posts.{Posts}
+use Rattle.grind_ring_units.specs.declared.findings.Scan.{Scan}
+use Rattle.grind_ring_units.specs.declared.findings.Scan.TheVariants as scan
+use Rattle.grind_ring_units.specs.PostUnits.{IsJoining, IsPostTooLarge, WouldReduce}
+use Rattle.grind_ring_units.specs.PairUnits.{IsPairTooLarge, WouldJoinPair, ArePostsAt}
+use Rattle.grind_ring_units.specs.Findings.{IsFoundAtPost, IsFoundAtPair, IsCase, IsCaseScan, IsFormScan, marked, HasMarks}
+use Rattle.grind_ring_units.specs.Scans.{posts_of, no_marks, OnlyLater, IsOneOf, AreMarked, MayJoin, ArePostsOf, AreMarkedPosts, no_posts, IsPostScan, ArePostsOfPair, IsFrom, IsWithin, AreMarkedPairs, IsPairScan, no_pairs}
+use Rattle.grind_ring_units.proofs.ListLemmas.{none_listed, first_or_rest, at_first, in_rest}
+use Rattle.grind_ring_units.proofs.FindingLemmas.{done_not_joining, done_not_large, done_not_reduced, reducible_not_joining, reduced_not_large, large_not_joining, large_not_reduced, done_pair_not_large, done_pair_not_joining, joining_pair_not_large, large_pair_not_joining}
+
+-- ---- marks of anything
+module _ (K : Type 0) (all own large joins : K → Type 0) (are_posts : K → Posts → Type 0) (free : Type 0) where
+  begin_mark : (later : K → Type 0) → ((k : K) → all k → later k) → AreMarked K all later own large joins are_posts free no_marks
+  begin_mark later each = record {
+    none_own = λ k there it. each k there;
+    too_large = λ k there it. each k there;
+    would_join = λ k there it. each k there;
+    none_left = λ it. refl;
+  }
+
+  module _ (later next : K → Type 0) (marks : Marks) (so_far : AreMarked K all later own large joins are_posts free marks) where
+    -- what is later is later still, or none of P
+    moved : (P : K → Type 0) → ((k : K) → all k → P k → later k → next k) → (mark : Option Posts)
+        → MatchOption mark (OnlyLater K all later P) (λ posts. IsOneOf K all P are_posts posts)
+        → MatchOption mark (OnlyLater K all next P) (λ posts. IsOneOf K all P are_posts posts)
+    moved P step None h = λ k there it. step k there it (h k there it)
+    moved P step (Some posts) h = h
+
+    same_marks : ((k : K) → all k → own k → later k → next k) → ((k : K) → all k → large k → later k → next k)
+        → ((k : K) → all k → joins k → later k → next k) → AreMarked K all next own large joins are_posts free marks
+    same_marks first second third = record {
+      none_own = λ k there it. first k there it (so_far.none_own k there it);
+      too_large = moved large second marks.too_large so_far.too_large;
+      would_join = moved joins third marks.left so_far.would_join;
+      none_left = so_far.none_left;
+    }
+
+    pub marked_on : ((k : K) → all k → later k → next k) → AreMarked K all next own large joins are_posts free marks
+    marked_on step = same_marks (λ k there it. step k there) (λ k there it. step k there) (λ k there it. step k there)
+
+    module _ (one : K) (there_one : all one) (passes : (k : K) → later k → (one ≡ k) ⊎ next k) where
+      passed : (P : K → Type 0) → ¬ P one → (k : K) → all k → P k → later k → next k
+      passed P other k there it is_later = elim (passes k is_later) [
+        | inl same ↦ absurd (other (subst P (sym same) it))
+        | inr more ↦ more
+      ]
+
+      marked_done : ¬ own one → ¬ large one → ¬ joins one → AreMarked K all next own large joins are_posts free marks
+      marked_done first second third = same_marks (passed own first) (passed large second) (passed joins third)
+
+      marked_large : (posts : Posts) → are_posts one posts → ¬ own one → large one → ¬ joins one
+          → AreMarked K all next own large joins are_posts free (record { too_large = Some posts; left = marks.left })
+      marked_large posts are first second third = record {
+        none_own = λ k there it. passed own first k there it (so_far.none_own k there it);
+        too_large = (one, there_one, second, are);
+        would_join = moved joins (passed joins third) marks.left so_far.would_join;
+        none_left = so_far.none_left;
+      }
+
+      marked_left : (posts : Posts) → are_posts one posts → ¬ own one → ¬ large one → joins one → ¬ free
+          → AreMarked K all next own large joins are_posts free (record { too_large = marks.too_large; left = Some posts })
+      marked_left posts are first second third busy = record {
+        none_own = λ k there it. passed own first k there it (so_far.none_own k there it);
+        too_large = moved large (passed large second) marks.too_large so_far.too_large;
+        would_join = (one, there_one, third, are);
+        none_left = λ it. absurd (busy it);
+      }
+
+-- ---- facts
+-- the facts that are left are of those that were taken, and what the marks say of the others
+pub record PostsSoFar (state : State) (rest : List Fact) (marks : Marks) : Type 0 where
+  pub within : (it : Fact) → Contains rest it → Contains state.taken it
+  pub are_marked : AreMarkedPosts state (λ (it : Fact). Contains rest it) marks
+
+module _ (state : State) where
+  pub posts_begin : (rest : List Fact) (marks : Marks) → rest ≡ state.taken → marks ≡ no_marks → PostsSoFar state rest marks
+  posts_begin rest marks is none = record {
+    within = λ it there. subst (λ (xs : List Fact). Contains xs it) is there;
+    are_marked =
+        subst (AreMarkedPosts state (λ (it : Fact). Contains rest it)) (sym none)
+        (begin_mark Fact (λ (it : Fact). Contains state.taken it) (IsJoining state) (IsPostTooLarge state) (WouldReduce state) ArePostsOf
+        (MayJoin state) (λ (it : Fact). Contains rest it) (λ it there. subst (λ (xs : List Fact). Contains xs it) (sym is) there));
+  }
+
+  module _ (rest tail : List Fact) (it : Fact) (marks : Marks) (is : rest ≡ it ∷ tail) (so_far : PostsSoFar state rest marks) where
+    pub post_there : Contains state.taken it
+    post_there = so_far.within it (subst (λ (xs : List Fact). Contains xs it) (sym is) (at_first it tail))
+
+    post_passes : (k : Fact) → Contains rest k → (it ≡ k) ⊎ Contains tail k
+    post_passes k there = first_or_rest it tail k (subst (λ (xs : List Fact). Contains xs k) is there)
+
+    still_within : (k : Fact) → Contains tail k → Contains state.taken k
+    still_within k there = so_far.within k (subst (λ (xs : List Fact). Contains xs k) (sym is) (in_rest it tail k there))
+
+    marked_posts : (finding : Finding) (free : Bool) → IsFoundAtPost state it finding → (IsTrue free → MayJoin state) → (MayJoin state → IsTrue free)
+        → ¬ IsCase free finding → AreMarkedPosts state (λ (k : Fact). Contains tail k) (marked marks finding (posts_of it.post it.post))
+    marked_posts finding.Done free found is_free may no_case =
+        marked_done Fact (λ (k : Fact). Contains state.taken k) (IsJoining state) (IsPostTooLarge state) (WouldReduce state) ArePostsOf (MayJoin state)
+        (λ (k : Fact). Contains rest k) (λ (k : Fact). Contains tail k) marks so_far.are_marked it post_there post_passes
+        (done_not_joining state it found) (done_not_large state it found) (done_not_reduced state it found)
+    marked_posts finding.Own free found is_free may no_case = absurd (no_case tt)
+    marked_posts (finding.Form form line) free found is_free may no_case =
+        marked_left Fact (λ (k : Fact). Contains state.taken k) (IsJoining state) (IsPostTooLarge state) (WouldReduce state) ArePostsOf (MayJoin state)
+        (λ (k : Fact). Contains rest k) (λ (k : Fact). Contains tail k) marks so_far.are_marked it post_there post_passes
+        (posts_of it.post it.post) refl (reducible_not_joining state it form found.reducible) (reduced_not_large state it form line found)
+        (form, line, found) (λ it_may. no_case (may it_may))
+    marked_posts finding.TooLarge free found is_free may no_case =
+        marked_large Fact (λ (k : Fact). Contains state.taken k) (IsJoining state) (IsPostTooLarge state) (WouldReduce state) ArePostsOf (MayJoin state)
+        (λ (k : Fact). Contains rest k) (λ (k : Fact). Contains tail k) marks so_far.are_marked it post_there post_passes
+        (posts_of it.post it.post) refl (large_not_joining state it found) found (large_not_reduced state it found)
+
+    pub posts_step : (finding : Finding) (free : Bool) (new : Marks) → IsFoundAtPost state it finding → (IsTrue free → MayJoin state)
+        → (MayJoin state → IsTrue free) → ¬ IsCase free finding → new ≡ marked marks finding (posts_of it.post it.post)
+        → PostsSoFar state tail new
+    posts_step finding free new found is_free may no_case new_is = record {
+      within = still_within;
+      are_marked =
+          subst (AreMarkedPosts state (λ (k : Fact). Contains tail k)) (sym new_is) (marked_posts finding free found is_free may no_case);
+    }
+
+    pub posts_case : (finding : Finding) (free : Bool) (end : Scan) → IsFoundAtPost state it finding → (IsTrue free → MayJoin state)
+        → IsCase free finding → IsCaseScan finding it end → IsPostScan state end
+    posts_case finding.Done free end found is_free case ends = absurd case
+    posts_case finding.Own free end found is_free case ends = subst (IsPostScan state) (sym ends) (post_there, found)
+    posts_case (finding.Form form line) free end found is_free case ends =
+        subst (IsPostScan state) (sym ends) (is_free case, it, post_there, found)
+    posts_case finding.TooLarge free end found is_free case ends = absurd case
+
+  pub posts_end : (rest : List Fact) (marks : Marks) → length rest ≡ 0 → PostsSoFar state rest marks → AreMarkedPosts state no_posts marks
+  posts_end [] marks none so_far =
+      marked_on Fact (λ (k : Fact). Contains state.taken k) (IsJoining state) (IsPostTooLarge state) (WouldReduce state) ArePostsOf (MayJoin state)
+      (λ (k : Fact). Contains [] k) no_posts marks so_far.are_marked (λ k there later. none_listed k later)
+  posts_end (x ∷ xs) marks none so_far = absurd (omega arith)
+
+-- ---- pairs
+places_of : ℕ → ℕ → Places
+places_of first second = record { first = first; second = second }
+
+module _ (state : State) (count : ℕ) where
+  pub pairs_begin : (marks : Marks) → marks ≡ no_marks → AreMarkedPairs state count (IsFrom 0 0) marks
+  pairs_begin marks none =
+      subst (AreMarkedPairs state count (IsFrom 0 0)) (sym none)
+      (begin_mark Places (IsWithin count) (λ (k : Places). ⊥) (IsPairTooLarge state) (WouldJoinPair state) (ArePostsOfPair state) (MayJoin state)
+      (IsFrom 0 0) each)
+    where
+      each : (k : Places) → IsWithin count k → IsFrom 0 0 k
+      each k there = inl (let above : k.first < k.second = there.0 in omega arith)
+
+  pub pairs_end : (last : ℕ) (marks : Marks) → count ≤ last → AreMarkedPairs state count (IsFrom 0 last) marks → AreMarkedPairs state count no_pairs marks
+  pairs_end last marks all_rows so_far =
+      marked_on Places (IsWithin count) (λ (k : Places). ⊥) (IsPairTooLarge state) (WouldJoinPair state) (ArePostsOfPair state) (MayJoin state)
+      (IsFrom 0 last) no_pairs marks so_far none
+    where
+      none : (k : Places) → IsWithin count k → IsFrom 0 last k → ⊥
+      none k there from = let low : k.second < count = there.1 in elim from [
+        | inl above ↦ omega arith
+        | inr same ↦ let there_is : k.second ≡ last = same.0 in omega arith
+      ]
+
+  pub row_end : (first second : ℕ) (marks : Marks) → second ≤ first → AreMarkedPairs state count (IsFrom first second) marks
+      → AreMarkedPairs state count (IsFrom 0 (second + 1)) marks
+  row_end first second marks whole so_far =
+      marked_on Places (IsWithin count) (λ (k : Places). ⊥) (IsPairTooLarge state) (WouldJoinPair state) (ArePostsOfPair state) (MayJoin state)
+      (IsFrom first second) (IsFrom 0 (second + 1)) marks so_far next
+    where
+      next : (k : Places) → IsWithin count k → IsFrom first second k → IsFrom 0 (second + 1) k
+      next k there from = let rising : k.first < k.second = there.0 in elim from [
+        | inl above ↦ elim (cases_Bool (nat_lt (second + 1) k.second)) [
+          | inl more ↦ inl (ltb-true (second + 1) k.second more)
+          | inr last ↦ let low = ltb-false (second + 1) k.second last in inr (omega arith, omega arith)
+        ]
+        | inr same ↦ absurd (let low : k.second ≡ second = same.0 in let high : first ≤ k.first = same.1 in omega arith)
+      ]
+
+  module _ (first second : ℕ) (marks : Marks) (rising : first < second) (within : second < count)
+      (so_far : AreMarkedPairs state count (IsFrom first second) marks) where
+    pair_passes : (k : Places) → IsFrom first second k → (places_of first second ≡ k) ⊎ IsFrom (first + 1) second k
+    unfolding places_of
+    pair_passes k from = elim from [
+      | inl above ↦ inr (inl above)
+      | inr same ↦ elim (cases_Bool (nat_lt first k.first)) [
+        | inl more ↦ let above = ltb-true first k.first more in inr (inr (same.0, omega arith))
+        | inr last ↦
+            let low = ltb-false first k.first last in
+            let high : first ≤ k.first = same.1 in
+            let one : first ≡ k.first = omega arith in
+            let two : second ≡ k.second = sym same.0 in inl (λ i. record { first = one i; second = two i })
+      ]
+    ]
+
+    marked_pairs : (finding : Finding) (free : Bool) (posts : Posts) → IsFoundAtPair state (places_of first second) finding
+        → (MayJoin state → IsTrue free) → ¬ IsCase free finding → ArePostsAt state (places_of first second) posts.first posts.second
+        → AreMarkedPairs state count (IsFrom (first + 1) second) (marked marks finding posts)
+    unfolding places_of
+    marked_pairs finding.Done free posts found may no_case are =
+        marked_done Places (IsWithin count) (λ (k : Places). ⊥) (IsPairTooLarge state) (WouldJoinPair state) (ArePostsOfPair state) (MayJoin state)
+        (IsFrom first second) (IsFrom (first + 1) second) marks so_far (places_of first second) (rising, within) pair_passes
+        (λ it. it) (done_pair_not_large state (places_of first second) found) (done_pair_not_joining state (places_of first second) found)
+    marked_pairs finding.Own free posts found may no_case are = absurd found
+    marked_pairs (finding.Form form line) free posts found may no_case are =
+        marked_left Places (IsWithin count) (λ (k : Places). ⊥) (IsPairTooLarge state) (WouldJoinPair state) (ArePostsOfPair state) (MayJoin state)
+        (IsFrom first second) (IsFrom (first + 1) second) marks so_far (places_of first second) (rising, within) pair_passes
+        posts are (λ it. it) (joining_pair_not_large state (places_of first second) found.0 form line found.1) (found.0, form, line, found.1)
+        (λ it_may. no_case (may it_may))
+    marked_pairs finding.TooLarge free posts found may no_case are =
+        marked_large Places (IsWithin count) (λ (k : Places). ⊥) (IsPairTooLarge state) (WouldJoinPair state) (ArePostsOfPair state) (MayJoin state)
+        (IsFrom first second) (IsFrom (first + 1) second) marks so_far (places_of first second) (rising, within) pair_passes
+        posts are (λ it. it) found (large_pair_not_joining state (places_of first second) found)
+
+    pub pairs_step : (finding : Finding) (free : Bool) (posts : Posts) (new : Marks)
+        → IsFoundAtPair state (record { first = first; second = second }) finding → (MayJoin state → IsTrue free) → ¬ IsCase free finding
+        → ArePostsAt state (record { first = first; second = second }) posts.first posts.second → new ≡ marked marks finding posts
+        → AreMarkedPairs state count (IsFrom (first + 1) second) new
+    unfolding places_of
+    pairs_step finding free posts new found may no_case are new_is =
+        subst (AreMarkedPairs state count (IsFrom (first + 1) second)) (sym new_is) (marked_pairs finding free posts found may no_case are)
+
+pub pairs_case : (state : State) (count : ℕ) (later : Places → Type 0) (places : Places) (finding : Finding) (free : Bool) (end : Scan)
+    → IsFoundAtPair state places finding → (IsTrue free → MayJoin state) → IsCase free finding → IsFormScan finding end
+    → IsPairScan state count later end
+pairs_case state count later places finding.Done free end found is_free case ends = absurd case
+pairs_case state count later places finding.Own free end found is_free case ends = absurd found
+pairs_case state count later places (finding.Form form line) free end found is_free case ends =
+    subst (IsPairScan state count later) (sym ends) (is_free case, places, found.0, found.1)
+pairs_case state count later places finding.TooLarge free end found is_free case ends = absurd case
+
+-- ---- rows
+none_some : (x : Marks) → None ≡ Some x → ⊥
+none_some x e = cc
+
+some_same : (x y : Marks) → Some x ≡ Some y → x ≡ y
+some_same x y e = cc
+
+some_none : (x : Marks) → Some x ≡ None → ⊥
+some_none x e = cc
+
+module _ (state : State) (count : ℕ) (later : Places → Type 0) where
+  pub row_ends : (end : Scan) → IsPairScan state count later end → HasMarks end None → IsPairScan state count no_pairs end
+  row_ends (scan.Own it) is none = absurd is
+  row_ends (scan.Form rest line) is none = is
+  row_ends (scan.Nothing marks) is none = absurd (none_some marks none)
+
+  pub row_marks : (end : Scan) (more : Marks) → IsPairScan state count later end → HasMarks end (Some more) → AreMarkedPairs state count later more
+  row_marks (scan.Own it) more is some = absurd is
+  row_marks (scan.Form rest line) more is some = absurd (some_none more some)
+  row_marks (scan.Nothing marks) more is some =
+      subst (AreMarkedPairs state count later) (sym (some_same more marks some)) is

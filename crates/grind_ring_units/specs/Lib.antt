@@ -1,0 +1,9 @@
+pub mod Given
+pub mod Zeroed
+pub mod PostUnits
+pub mod PairUnits
+pub mod Conflicts
+pub mod EqualTerms
+pub mod Scans
+pub mod Findings
+pub mod NormalTerms
