@@ -46,6 +46,7 @@ FILES = {
     "grind_signature": ["Signatures"],
     "grind_resolution": ["Scopes", "Sorting", "Resolved", "DeclaredSchemes", "Sizes", "Same", "Laws"],
     "grind_patterns": ["Copies", "Patterns"],
+    "grind_annotations": ["Written", "Giving", "Asking"],
     "grind_theory": ["States", "Faults", "Theories", "Kept", "Building", "Laws"],
     "grind_report": ["Blocks", "Report"],
     "grind_cli": ["Commands", "TheoryFiles", "Reading", "Answers", "Endings", "Statuses", "Notes"],

@@ -6,8 +6,8 @@ ghost use Rattle.grind_resolution.specs.Rows.{row_of_trees};
 
 use grind_grammar::Tree;
 
-// The sum of two counts, or the limit where that is less.
-fn sum_within(left: u32, right: u32, limit: u32) -> u32
+/// The sum of two counts, or the limit where that is less.
+pub fn sum_within(left: u32, right: u32, limit: u32) -> u32
     requires { left ≤ limit }
     ensures value { result ≡ min (left + right) limit }
     ensures within { result ≤ limit }

@@ -17,7 +17,9 @@ use Rattle.grind_theory.specs.declared.limits.LimitKind.{LimitKind}
 use Rattle.grind_theory.specs.declared.theory.Fault.{Fault}
 use Rattle.grind_theory.specs.declared.theory.Fault.TheVariants as faults
 use Rattle.grind_theory.specs.States.{LimitsData, state_data, sort_numbers, bound_names, bound_sorts, scope_of}
-use Rattle.grind_theory.specs.Faults.{AreNewAfter, AreSorts, IsFormulaTerm, StandForEach, interned_each, most_nodes, FaultOf}
+use Rattle.grind_annotations.specs.Asking.{IsFormulaTerm}
+use Rattle.grind_annotations.specs.Giving.{StandForEach}
+use Rattle.grind_theory.specs.Faults.{AreNewAfter, AreSorts, interned_each, most_nodes, FaultOf}
 use Rattle.grind_theory.specs.Theories.{Takes}
 
 -- under the signature, the declaration has this fault whatever else is declared

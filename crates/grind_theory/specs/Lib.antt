@@ -1,4 +1,3 @@
-pub mod Annotating
 pub mod Asking
 pub mod Building
 pub mod Declaring

@@ -7,7 +7,8 @@ ghost use Rattle.grind_grammar.specs.Keeps.{IsPlaced, IsPlacedTree, name_of, ter
 ghost use Rattle.grind_theory.specs.States.{bound_names};
 ghost use Rattle.grind_theory.specs.Faults.{FaultOf};
 ghost use Rattle.grind_theory.specs.Theories.{Takes, AreDeclared};
-ghost use Rattle.grind_theory.specs.Kept.{terms_of, bounds_of, annotations_of, declaration_of, IsPlacedBinder, IsPlacedAnnot, IsPlacedDecl, HasLabels};
+ghost use Rattle.grind_annotations.specs.Written.{terms_of, annotations_of, IsPlacedAnnot};
+ghost use Rattle.grind_theory.specs.Kept.{bounds_of, declaration_of, IsPlacedBinder, IsPlacedDecl, HasLabels};
 ghost use Rattle.grind_theory.specs.Declaring.{HasFault, IsTheoremTaken, IsGoalTaken};
 ghost use Rattle.grind_theory.specs.Building.{state_at};
 

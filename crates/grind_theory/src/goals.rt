@@ -12,11 +12,12 @@ ghost use Rattle.grind_resolution.specs.Scopes.{binder_names, AreApart, Gives};
 ghost use Rattle.grind_resolution.specs.Sorting.{HasSort};
 ghost use Rattle.grind_theory.specs.States.{bound_names};
 ghost use Rattle.grind_theory.specs.Theories.{IsGoalDeclared};
-ghost use Rattle.grind_theory.specs.Kept.{terms_of, bounds_of, IsPlacedBinder};
+ghost use Rattle.grind_annotations.specs.Written.{terms_of};
+ghost use Rattle.grind_theory.specs.Kept.{bounds_of, IsPlacedBinder};
 ghost use Rattle.grind_theory.specs.Declaring.{HasFault, IsPutAs, IsOver, ArePutAs, AreOver, AreGoalTerms, AreTooMany, IsGoalAdded, IsGoalIn};
 
 use crate::binders::open_scope;
-use crate::formulas::fault_of_formulas;
+use crate::goal_faults::fault_of_formulas;
 use crate::sorts::bytes_of;
 use crate::theory::{DeclRefusal, Fault};
 use grind_grammar::{Binder, Name, Tree};

@@ -2,16 +2,15 @@
 //! search, and the terms of each goal; or the first declaration that is bad, and what is wrong with it.
 #![tactic(auto)]
 
-mod annotations;
 mod binders;
 mod declarations;
 pub mod elaborate;
-mod formulas;
+mod goal_faults;
 mod goals;
 pub mod laws;
 mod limits;
-mod patterns;
 mod sorts;
+mod theorem_faults;
 mod theorem_sizes;
 mod theorems;
 pub mod theory;

@@ -7,17 +7,17 @@ ghost use Rattle.grind_grammar.specs.Keeps.{IsPlaced, IsPlacedTree, name_of, ter
 ghost use Rattle.grind_signature.specs.Signatures.{with_label};
 ghost use Rattle.grind_resolution.specs.Scopes.{AreApart, Gives, variable_sorts};
 ghost use Rattle.grind_resolution.specs.Sorting.{HasSort, IsSorted};
-ghost use Rattle.grind_theory.specs.Faults.{AllWritten};
-ghost use Rattle.grind_theory.specs.Kept.{bounds_of, annotations_of, IsPlacedBinder, IsPlacedAnnot};
+ghost use Rattle.grind_annotations.specs.Written.{AllWritten, annotations_of, IsPlacedAnnot};
+ghost use Rattle.grind_theory.specs.Kept.{bounds_of, IsPlacedBinder};
 ghost use Rattle.grind_theory.specs.Declaring.{HasFault, IsTheoremAdded};
 ghost use Rattle.grind_theory.specs.Theorems.{IsTheoremIn, FaultOfTheorem};
 
-use crate::annotations::lists_of_annots;
 use crate::binders::{open_scope, sorts_of_binders};
-use crate::patterns::fault_of_terms;
 use crate::sorts::bytes_of;
+use crate::theorem_faults::fault_of_terms;
 use crate::theorem_sizes::is_small;
 use crate::theory::{DeclRefusal, Fault};
+use grind_annotations::lists_of_annots;
 use grind_grammar::{Annot, Binder, Name, Tree};
 use grind_outside::{List, Memory};
 use grind_resolution::laws::{one_meaning, one_scheme, schemes_are_formed};

@@ -3,7 +3,8 @@ use Rattle.std.specs.Int.{w128}
 use Rattle.std.proofs.lemmas.Int.{to_z-of_z}
 use Rattle.grind_grammar.specs.Terms.{Sort, Fun, Theorem, Goal, Limit}
 use Rattle.grind_grammar.specs.Keeps.{term_of, name_of}
-use Rattle.grind_theory.specs.Kept.{names_of, terms_of, bounds_of, annotations_of, declaration_of}
+use Rattle.grind_annotations.specs.Written.{terms_of, annotations_of}
+use Rattle.grind_theory.specs.Kept.{names_of, bounds_of, declaration_of}
 use Rattle.grind_theory.proofs.DeclTaking.{added_ok, added_declared, theorem_ok, theorem_declared, goal_ok, limit_ok, has_fault, has_limit_fault}
 use Rattle.grind_theory.proofs.declarations.declare.Goals as goal
 

@@ -1,6 +1,7 @@
 use Rattle.grind_grammar.specs.Terms.{Goal}
 use Rattle.grind_grammar.specs.Keeps.{term_of, name_of}
-use Rattle.grind_theory.specs.Kept.{bounds_of, terms_of}
+use Rattle.grind_annotations.specs.Written.{terms_of}
+use Rattle.grind_theory.specs.Kept.{bounds_of}
 use Rattle.grind_theory.proofs.FunTaking.{same_Err}
 use Rattle.grind_theory.proofs.Declared.{goal-declared}
 use Rattle.grind_theory.proofs.DeclTaking.{goal_taken, goal_held}

@@ -1,7 +1,8 @@
 use Rattle.std.proofs.Common.{ap, Err}
 use Rattle.grind_grammar.specs.Terms.{Theorem}
 use Rattle.grind_grammar.specs.Keeps.{term_of, name_of}
-use Rattle.grind_theory.specs.Kept.{bounds_of, annotations_of}
+use Rattle.grind_annotations.specs.Written.{annotations_of}
+use Rattle.grind_theory.specs.Kept.{bounds_of}
 use Rattle.grind_theory.proofs.FunTaking.{same_Err}
 use Rattle.grind_theory.proofs.DeclTaking.{theorem_taken, theorem_held}
 use Rattle.grind_theory.proofs.declarations.declare_theorem.Goals as goal

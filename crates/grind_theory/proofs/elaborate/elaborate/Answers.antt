@@ -5,7 +5,7 @@ use Rattle.grind_theory.specs.States.{opening_state}
 use Rattle.grind_theory.specs.Theories.{AreDeclared, TakesAll, RefusedAt}
 use Rattle.grind_theory.specs.Kept.{declaration_of, IsPlacedDecl, HasLabels}
 use Rattle.grind_theory.specs.Building.{state_at}
-use Rattle.grind_theory.proofs.SortLists.{map-All, no_items}
+use Rattle.grind_annotations.proofs.ItemLemmas.{map-All, no_items}
 use Rattle.grind_theory.proofs.FunTaking.{same_Err}
 use Rattle.grind_theory.proofs.Underway.{IsUnderway, decls-kept, underway-start, underway-next, underway-end, underway-refused}
 use Rattle.grind_theory.proofs.elaborate.elaborate.Goals as goal

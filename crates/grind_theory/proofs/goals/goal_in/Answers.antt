@@ -2,10 +2,10 @@ use Rattle.std.proofs.Common.{sym, ap, subst, Err}
 use Rattle.grind_schemes.specs.Labels.{IsLabel}
 use Rattle.grind_grammar.specs.Keeps.{term_of}
 use Rattle.grind_resolution.specs.Scopes.{Gives}
-use Rattle.grind_theory.specs.Faults.{IsFormulaTerm}
+use Rattle.grind_annotations.specs.Asking.{IsFormulaTerm}
 use Rattle.grind_theory.specs.Theories.{IsGoalDeclared}
-use Rattle.grind_theory.specs.Kept.{terms_of}
-use Rattle.grind_theory.proofs.SortLists.{All-map}
+use Rattle.grind_annotations.specs.Written.{terms_of}
+use Rattle.grind_annotations.proofs.ItemLemmas.{All-map}
 use Rattle.grind_theory.proofs.FunTaking.{same_Err}
 use Rattle.grind_theory.proofs.GoalLaws.{goal-declared, goal-kept}
 use Rattle.grind_theory.proofs.goals.goal_in.Goals as goal

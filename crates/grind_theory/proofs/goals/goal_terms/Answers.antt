@@ -2,7 +2,7 @@ use Rattle.std.proofs.Common.{ap, ◌∙◌, Err}
 use Rattle.grind_term_graph.specs.Terms.{Terms}
 use Rattle.grind_grammar.specs.Keeps.{term_of}
 use Rattle.grind_resolution.specs.Scopes.{Gives}
-use Rattle.grind_theory.specs.Kept.{terms_of}
+use Rattle.grind_annotations.specs.Written.{terms_of}
 use Rattle.grind_theory.proofs.FunTaking.{same_Err}
 use Rattle.grind_theory.proofs.GoalLaws.{too_many, too_many_hyps}
 use Rattle.grind_theory.proofs.goals.goal_terms.Goals as goal

@@ -5,8 +5,8 @@ use Rattle.grind_grammar.specs.Keeps.{IsPlacedTree, term_of}
 use Rattle.grind_resolution.specs.Scopes.{Gives}
 use Rattle.grind_resolution.specs.Sorting.{HasSort}
 use Rattle.grind_theory.specs.Faults.{interned_each}
-use Rattle.grind_theory.specs.Kept.{terms_of}
-use Rattle.grind_theory.proofs.SortLists.{no_items}
+use Rattle.grind_annotations.specs.Written.{terms_of}
+use Rattle.grind_annotations.proofs.ItemLemmas.{no_items}
 use Rattle.grind_theory.proofs.FunTaking.{same_Err}
 use Rattle.grind_theory.proofs.Interning.{putting-next, putting-full, putting-end}
 use Rattle.grind_theory.proofs.goals.intern_formulas.Goals as goal

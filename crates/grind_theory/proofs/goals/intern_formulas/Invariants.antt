@@ -3,7 +3,7 @@ use Rattle.grind_term_graph.specs.Terms.{prop}
 use Rattle.grind_grammar.specs.Keeps.{IsPlacedTree, term_of}
 use Rattle.grind_resolution.specs.Scopes.{Gives}
 use Rattle.grind_resolution.specs.Sorting.{HasSort}
-use Rattle.grind_theory.specs.Kept.{terms_of}
+use Rattle.grind_annotations.specs.Written.{terms_of}
 use Rattle.grind_theory.proofs.Interning.{IsPutting}
 use Rattle.grind_theory.proofs.goals.intern_formulas.Given as goal
 

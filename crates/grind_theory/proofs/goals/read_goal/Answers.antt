@@ -4,10 +4,11 @@ use Rattle.grind_schemes.specs.Labels.{IsLabel}
 use Rattle.grind_grammar.specs.Terms.{Goal}
 use Rattle.grind_grammar.specs.Keeps.{term_of, name_of}
 use Rattle.grind_resolution.specs.Scopes.{ScopeData, binder_names, Gives}
-use Rattle.grind_theory.specs.Faults.{IsFormulaTerm}
-use Rattle.grind_theory.specs.Kept.{terms_of, bounds_of}
+use Rattle.grind_annotations.specs.Asking.{IsFormulaTerm}
+use Rattle.grind_annotations.specs.Written.{terms_of}
+use Rattle.grind_theory.specs.Kept.{bounds_of}
 use Rattle.grind_theory.specs.Declaring.{HasFault, FaultOfFormulas}
-use Rattle.grind_theory.proofs.SortLists.{map-All}
+use Rattle.grind_annotations.proofs.ItemLemmas.{map-All}
 use Rattle.grind_theory.proofs.BinderLists.{names_same}
 use Rattle.grind_theory.proofs.FunTaking.{same_Err}
 use Rattle.grind_theory.proofs.GoalTaking.{goal-binders, goal-many}

@@ -1,7 +1,8 @@
 use Rattle.std.proofs.Common.{ap, subst, Err, None}
 use Rattle.grind_grammar.specs.Keeps.{term_of, name_of}
 use Rattle.grind_resolution.specs.Scopes.{Gives}
-use Rattle.grind_theory.specs.Kept.{bounds_of, annotations_of}
+use Rattle.grind_annotations.specs.Written.{annotations_of}
+use Rattle.grind_theory.specs.Kept.{bounds_of}
 use Rattle.grind_theory.specs.Asking.{FaultOfTerms}
 use Rattle.grind_theory.proofs.FunTaking.{same_Err}
 use Rattle.grind_theory.proofs.TheoremTaking.{theorem-binders, theorem-variables, theorem-faulty, theorem-added}

@@ -5,8 +5,8 @@ use Rattle.grind_schemes.specs.Schemes.{scheme_sort, IsScheme, IsHeadedByFunctio
 use Rattle.grind_schemes.specs.Theorems.{HoldsEach, IsTheorem, theorem_data}
 use Rattle.grind_grammar.specs.Keeps.{term_of, name_of}
 use Rattle.grind_resolution.specs.Scopes.{Gives}
-use Rattle.grind_theory.specs.Kept.{annotations_of}
-use Rattle.grind_theory.specs.Annotating.{ListsOrNone}
+use Rattle.grind_annotations.specs.Written.{annotations_of}
+use Rattle.grind_annotations.specs.Annotating.{ListsOrNone}
 use Rattle.grind_theory.specs.Theorems.{IsAnnotated, HasPatterns, FaultOfTheorem}
 use Rattle.grind_theory.proofs.FunTaking.{same_Err, same_Faulty}
 use Rattle.grind_theory.proofs.TheoremMaking.{annotated-kept, kept-annotated, theorem-kept, no_lists, theorem-is}
