@@ -11,8 +11,9 @@ use Rattle.grind_annotations.specs.declared.questions.Question.TheVariants as qu
 abbrev pub IsFormulaTerm : (List ℕ → Given → Type 0) → Term → Type 0
 IsFormulaTerm gives t = HasSort gives t prop
 
--- the term is known, counted, or has a sort
+-- the term is known, counted, of a sort, or a formula
 abbrev pub Answers : Question → (List ℕ → Given → Type 0) → Term → Type 0
 Answers questions.Known gives t = Known gives t
 Answers questions.Counted gives t = Counted gives t
 Answers questions.Sorted gives t = IsSorted gives t
+Answers questions.Formula gives t = IsFormulaTerm gives t

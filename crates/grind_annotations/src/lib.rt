@@ -6,5 +6,5 @@ mod questions;
 mod sizes;
 
 pub use patterns::lists_of_annots;
-pub use questions::{Question, annots_answer};
+pub use questions::{Question, all_answer, annots_answer, answers};
 pub use sizes::size_of_annots;

@@ -4,7 +4,8 @@ ghost use Rattle.std.specs.List.{AllByRecursion};
 ghost use Rattle.grind_schemes.specs.Schemes.{IsScheme, IsHeadedByFunction};
 ghost use Rattle.grind_schemes.specs.Theorems.{HoldsEach};
 ghost use Rattle.grind_grammar.specs.Keeps.{IsPlacedTree, term_of};
-ghost use Rattle.grind_resolution.specs.Scopes.{AreApart, Gives, variable_sorts};
+ghost use Rattle.grind_resolution.specs.Scopes.{variable_sorts};
+ghost use Rattle.grind_resolution.specs.Contexts.{gives_in};
 ghost use Rattle.grind_resolution.specs.Sorting.{IsSorted};
 ghost use Rattle.grind_annotations.specs.Giving.{StandForEach, Annotates};
 ghost use Rattle.grind_annotations.specs.Written.{written, AllWritten, terms_of, annotation_of, annotations_of, IsPlacedAnnot};
@@ -14,47 +15,31 @@ use grind_grammar::{Annot, Tree};
 use grind_outside::{List, Memory};
 use grind_patterns::{Kind, patterns_of};
 use grind_resolution::laws::{one_meaning, one_scheme, schemes_are_formed};
-use grind_resolution::{Scope, resolve};
+use grind_resolution::{Context, resolve};
 use grind_schemes::Scheme;
-use grind_signature::signature::Signature;
 use grind_term_graph::SortId;
-use std::alloc::Global;
 
-/// The schemes that terms stand for, in order.
-fn written_schemes(
-    alloc: Global,
-    text: &[u8],
-    signature: &Signature,
-    scope: &Scope,
-    trees: &[Tree],
-) -> Result<List<Scheme>, Memory>
-    requires placed { All (IsPlacedTree text.now) trees.now }
-    requires apart { AreApart signature.now scope.now }
-    requires sorted { All (λ tree. IsSorted (Gives signature.now scope.now) (term_of text.now tree)) trees.now }
-    ensures { IfOk result (StandForEach (Gives signature.now scope.now) (terms_of text.now trees.now)) }
+// The schemes that terms stand for, in order.
+fn written_schemes(context: &Context<'_>, trees: &[Tree]) -> Result<List<Scheme>, Memory>
+    requires placed { All (IsPlacedTree context.now.text.now) trees.now }
+    requires sorted { All (λ tree. IsSorted (gives_in context.now) (term_of context.now.text.now tree)) trees.now }
+    ensures { IfOk result (StandForEach (gives_in context.now) (terms_of context.now.text.now trees.now)) }
 {
-    let mut schemes = List::new(alloc);
+    let mut schemes = List::new(context.alloc);
     let mut rest = trees;
     while let Some((tree, later)) = rest.split_first() {
-        let scheme = resolve(alloc, text, signature, scope, tree)?;
+        let scheme = resolve(context, tree)?;
         schemes.push(scheme)?;
         rest = later;
     }
     Ok(schemes)
 }
 
-/// The annotation, with the schemes of the terms that it writes.
-fn kind_of(
-    alloc: Global,
-    text: &[u8],
-    signature: &Signature,
-    scope: &Scope,
-    annot: &Annot,
-) -> Result<Kind, Memory>
-    requires placed { IsPlacedAnnot text.now annot.now }
-    requires apart { AreApart signature.now scope.now }
-    requires sorted { AllByRecursion (IsSorted (Gives signature.now scope.now)) (written (annotation_of text.now annot.now)) }
-    ensures { IfOk result (Annotates (Gives signature.now scope.now) (annotation_of text.now annot.now)) }
+// The annotation, with the schemes of the terms that it writes.
+fn kind_of(context: &Context<'_>, annot: &Annot) -> Result<Kind, Memory>
+    requires placed { IsPlacedAnnot context.now.text.now annot.now }
+    requires sorted { AllByRecursion (IsSorted (gives_in context.now)) (written (annotation_of context.now.text.now annot.now)) }
+    ensures { IfOk result (Annotates (gives_in context.now) (annotation_of context.now.text.now annot.now)) }
 {
     match annot {
         Annot::Left => Ok(Kind::Left),
@@ -63,64 +48,52 @@ fn kind_of(
         Annot::Concl => Ok(Kind::Concl),
         Annot::Pattern(trees) => {
             let terms = trees.as_slice();
-            let schemes = written_schemes(alloc, text, signature, scope, terms)?;
+            let schemes = written_schemes(context, terms)?;
             Ok(Kind::Written(schemes))
         }
     }
 }
 
-/// The patterns that an annotation gives; None exactly where it gives none.
+// The patterns that an annotation gives; None exactly where it gives none.
 fn patterns_of_annot(
-    alloc: Global,
-    text: &[u8],
-    signature: &Signature,
-    scope: &Scope,
+    context: &Context<'_>,
     vars: &[SortId],
     body: &Scheme,
     annot: &Annot,
 ) -> Result<Option<List<Scheme>>, Memory>
-    requires placed { IsPlacedAnnot text.now annot.now }
-    requires apart { AreApart signature.now scope.now }
-    requires sorted { AllByRecursion (IsSorted (Gives signature.now scope.now)) (written (annotation_of text.now annot.now)) }
-    ensures { IfOk result (GivesOrNone (Gives signature.now scope.now) vars.now body.now (annotation_of text.now annot.now)) }
+    requires placed { IsPlacedAnnot context.now.text.now annot.now }
+    requires sorted { AllByRecursion (IsSorted (gives_in context.now)) (written (annotation_of context.now.text.now annot.now)) }
+    ensures { IfOk result (GivesOrNone (gives_in context.now) vars.now body.now (annotation_of context.now.text.now annot.now)) }
 {
     one_meaning();
     one_scheme();
-    let _sorts = signature.sort_count();
-    let _binders = scope.len();
-    let kind = kind_of(alloc, text, signature, scope, annot)?;
-    let found = patterns_of(alloc, vars, body, &kind)?;
+    let kind = kind_of(context, annot)?;
+    let found = patterns_of(context.alloc, vars, body, &kind)?;
     Ok(found)
 }
 
 /// The lists of patterns that the annotations give, one each and in order; None exactly where one of them gives none.
 pub fn lists_of_annots(
-    alloc: Global,
-    text: &[u8],
-    signature: &Signature,
-    scope: &Scope,
+    context: &Context<'_>,
     vars: &[SortId],
     body: &Scheme,
     annots: &[Annot],
 ) -> Result<Option<List<List<Scheme>>>, Memory>
-    requires placed { All (IsPlacedAnnot text.now) annots.now }
-    requires apart { AreApart signature.now scope.now }
-    requires sorted { AllWritten (IsSorted (Gives signature.now scope.now)) (annotations_of text.now annots.now) }
-    requires variables { variable_sorts scope.now ≡ vars.now }
+    requires placed { All (IsPlacedAnnot context.now.text.now) annots.now }
+    requires sorted { AllWritten (IsSorted (gives_in context.now)) (annotations_of context.now.text.now annots.now) }
+    requires variables { variable_sorts context.now.scope.now ≡ vars.now }
     requires formed { IsScheme vars.now body.now }
-    ensures found { IfOk result (ListsOrNone (Gives signature.now scope.now) vars.now body.now (annotations_of text.now annots.now)) }
+    ensures found { IfOk result (ListsOrNone (gives_in context.now) vars.now body.now (annotations_of context.now.text.now annots.now)) }
     ensures formed { IfOk result (λ found. IfSome found (λ lists. All (All (IsScheme vars.now)) lists)) }
     ensures headed { IfOk result (λ found. IfSome found (λ lists. All (All IsHeadedByFunction) lists)) }
     ensures held { IfOk result (λ found. IfSome found (λ lists. All (HoldsEach vars.now) lists)) }
 {
     one_meaning();
     schemes_are_formed();
-    let _sorts = signature.sort_count();
-    let _binders = scope.len();
-    let mut lists = List::new(alloc);
+    let mut lists = List::new(context.alloc);
     let mut rest = annots;
     while let Some((annot, later)) = rest.split_first() {
-        let found = patterns_of_annot(alloc, text, signature, scope, vars, body, annot)?;
+        let found = patterns_of_annot(context, vars, body, annot)?;
         let Some(patterns) = found else {
             return Ok(None);
         };

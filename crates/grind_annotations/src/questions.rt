@@ -2,14 +2,14 @@
 ghost use Rattle.std.specs.Prelude.{◌↔◌, All, IsTrue};
 ghost use Rattle.std.specs.List.{AllByRecursion};
 ghost use Rattle.grind_grammar.specs.Keeps.{IsPlacedTree, term_of};
-ghost use Rattle.grind_resolution.specs.Scopes.{AreApart, Gives};
+ghost use Rattle.grind_resolution.specs.Contexts.{gives_in};
 ghost use Rattle.grind_resolution.specs.Sorting.{IsSorted};
 ghost use Rattle.grind_annotations.specs.Written.{written, annotation_of, IsPlacedAnnot};
-ghost use Rattle.grind_annotations.specs.Asking.{Answers};
+ghost use Rattle.grind_annotations.specs.Asking.{IsFormulaTerm, Answers};
 
 use grind_grammar::{Annot, Tree};
-use grind_resolution::{Scope, is_counted, is_known, sort_of};
-use grind_signature::signature::Signature;
+use grind_resolution::{Context, is_counted, is_known, sort_of};
+use grind_term_graph::SortId;
 
 /// What is asked of a term.
 #[derive(Clone, Copy, Debug, PartialEq, Eq)]
@@ -20,70 +20,62 @@ pub enum Question {
     Counted,
     /// Whether it has a sort.
     Sorted,
+    /// Whether it is a formula.
+    Formula,
 }
 
-/// Whether a term has a sort.
-fn is_sorted(text: &[u8], signature: &Signature, scope: &Scope, tree: &Tree) -> bool
-    requires placed { IsPlacedTree text.now tree.now }
-    requires apart { AreApart signature.now scope.now }
-    ensures { IsTrue result ↔ IsSorted (Gives signature.now scope.now) (term_of text.now tree.now) }
+// Whether a term has a sort.
+fn is_sorted(context: &Context<'_>, tree: &Tree) -> bool
+    requires { IsPlacedTree context.now.text.now tree.now }
+    ensures { IsTrue result ↔ IsSorted (gives_in context.now) (term_of context.now.text.now tree.now) }
 {
-    match sort_of(text, signature, scope, tree) {
+    match sort_of(context, tree) {
         Some(_) => true,
         None => false,
     }
 }
 
+// Whether a term is a formula.
+fn is_formula(context: &Context<'_>, tree: &Tree) -> bool
+    requires { IsPlacedTree context.now.text.now tree.now }
+    ensures { IsTrue result ↔ IsFormulaTerm (gives_in context.now) (term_of context.now.text.now tree.now) }
+{
+    match sort_of(context, tree) {
+        Some(sort) => sort == SortId::PROP,
+        None => false,
+    }
+}
+
 /// Whether it is so of a term.
-fn answers(
-    question: Question,
-    text: &[u8],
-    signature: &Signature,
-    scope: &Scope,
-    tree: &Tree,
-) -> bool
-    requires placed { IsPlacedTree text.now tree.now }
-    requires apart { AreApart signature.now scope.now }
-    ensures { IsTrue result ↔ Answers question (Gives signature.now scope.now) (term_of text.now tree.now) }
+pub fn answers(question: Question, context: &Context<'_>, tree: &Tree) -> bool
+    requires { IsPlacedTree context.now.text.now tree.now }
+    ensures { IsTrue result ↔ Answers question (gives_in context.now) (term_of context.now.text.now tree.now) }
 {
     match question {
-        Question::Known => is_known(text, signature, scope, tree),
-        Question::Counted => is_counted(text, signature, scope, tree),
-        Question::Sorted => is_sorted(text, signature, scope, tree),
+        Question::Known => is_known(context, tree),
+        Question::Counted => is_counted(context, tree),
+        Question::Sorted => is_sorted(context, tree),
+        Question::Formula => is_formula(context, tree),
     }
 }
 
 /// Whether it is so of each of the terms.
-fn all_answer(
-    question: Question,
-    text: &[u8],
-    signature: &Signature,
-    scope: &Scope,
-    trees: &[Tree],
-) -> bool
-    requires placed { All (IsPlacedTree text.now) trees.now }
-    requires apart { AreApart signature.now scope.now }
-    ensures { IsTrue result ↔ All (λ tree. Answers question (Gives signature.now scope.now) (term_of text.now tree)) trees.now }
+pub fn all_answer(question: Question, context: &Context<'_>, trees: &[Tree]) -> bool
+    requires { All (IsPlacedTree context.now.text.now) trees.now }
+    ensures { IsTrue result ↔ All (λ tree. Answers question (gives_in context.now) (term_of context.now.text.now tree)) trees.now }
 {
     for tree in trees {
-        if !answers(question, text, signature, scope, tree) {
+        if !answers(question, context, tree) {
             return false;
         }
     }
     true
 }
 
-/// Whether it is so of each term that an annotation writes.
-fn annot_answers(
-    question: Question,
-    text: &[u8],
-    signature: &Signature,
-    scope: &Scope,
-    annot: &Annot,
-) -> bool
-    requires placed { IsPlacedAnnot text.now annot.now }
-    requires apart { AreApart signature.now scope.now }
-    ensures { IsTrue result ↔ AllByRecursion (Answers question (Gives signature.now scope.now)) (written (annotation_of text.now annot.now)) }
+// Whether it is so of each term that an annotation writes.
+fn annot_answers(question: Question, context: &Context<'_>, annot: &Annot) -> bool
+    requires { IsPlacedAnnot context.now.text.now annot.now }
+    ensures { IsTrue result ↔ AllByRecursion (Answers question (gives_in context.now)) (written (annotation_of context.now.text.now annot.now)) }
 {
     match annot {
         Annot::Left => true,
@@ -92,25 +84,18 @@ fn annot_answers(
         Annot::Concl => true,
         Annot::Pattern(trees) => {
             let terms = trees.as_slice();
-            all_answer(question, text, signature, scope, terms)
+            all_answer(question, context, terms)
         }
     }
 }
 
 /// Whether it is so of each term that the annotations write.
-pub fn annots_answer(
-    question: Question,
-    text: &[u8],
-    signature: &Signature,
-    scope: &Scope,
-    annots: &[Annot],
-) -> bool
-    requires placed { All (IsPlacedAnnot text.now) annots.now }
-    requires apart { AreApart signature.now scope.now }
-    ensures { IsTrue result ↔ All (λ annot. AllByRecursion (Answers question (Gives signature.now scope.now)) (written (annotation_of text.now annot))) annots.now }
+pub fn annots_answer(question: Question, context: &Context<'_>, annots: &[Annot]) -> bool
+    requires { All (IsPlacedAnnot context.now.text.now) annots.now }
+    ensures { IsTrue result ↔ All (λ annot. AllByRecursion (Answers question (gives_in context.now)) (written (annotation_of context.now.text.now annot))) annots.now }
 {
     for annot in annots {
-        if !annot_answers(question, text, signature, scope, annot) {
+        if !annot_answers(question, context, annot) {
             return false;
         }
     }

@@ -3,10 +3,9 @@ ghost use Rattle.std.specs.Prelude.{◌≡◌, ◌≤◌, ℕ, List, min};
 ghost use Rattle.grind_annotations.specs.Written.{terms_of, annotation_of, annotations_of, written, sizes, written_sizes};
 
 use grind_grammar::{Annot, Tree};
-use grind_resolution::size_of;
-use grind_resolution::sizes::sum_within;
+use grind_resolution::{size_of, sum_within};
 
-/// How many nodes the terms have together, or the limit where that is less.
+// How many nodes the terms have together, or the limit where that is less.
 fn size_of_trees(trees: &[Tree], limit: u32) -> u32
     ensures value { (text : List ℕ) → result ≡ min (sizes (terms_of text trees.now)) limit }
     ensures within { result ≤ limit }
@@ -22,7 +21,7 @@ fn size_of_trees(trees: &[Tree], limit: u32) -> u32
     total
 }
 
-/// How many nodes the terms that an annotation writes have together, or the limit where that is less.
+// How many nodes the terms that an annotation writes have together, or the limit where that is less.
 fn size_of_annot(annot: &Annot, limit: u32) -> u32
     ensures value { (text : List ℕ) → result ≡ min (sizes (written (annotation_of text annot.now))) limit }
     ensures within { result ≤ limit }

@@ -1,4 +1,4 @@
-//! What follows from the definitions of this crate. Each law is a call without a body: who makes the call knows the law.
+//! What follows from the definitions of this crate. Each law is the contract of a function with an empty body.
 ghost use Rattle.grind_resolution.specs.Laws.{OneMeaning, SortedIsCounted, OneSort, OneScheme, SchemesAreFormed, SchemesAreDeclared};
 
 /// Under binders of names of their own, which the signature does not hold, a name stands for one thing at most.

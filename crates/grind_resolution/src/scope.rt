@@ -7,7 +7,7 @@ ghost use Rattle.grind_resolution.specs.Scopes.{scope_data, binder_names, binder
 use crate::meaning::{BinderKind, Meaning};
 use grind_outside::{List, Memory};
 use grind_schemes::Constant;
-use grind_signature::name_table::NameTable;
+use grind_signature::NameTable;
 use grind_term_graph::{Head, SortId};
 use std::alloc::Global;
 use std::marker::Model;

@@ -38,6 +38,15 @@ impl Model for FunTable {
     ghost invariant = { λ a. length a.names ≡ length a.arities };
 }
 
+// The list of these sorts.
+fn listed(alloc: Global, sorts: &[SortId]) -> Result<List<SortId>, Memory>
+    ensures { IfOk result (λ list. list ≡ sorts.now) }
+{
+    let mut list = List::new(alloc);
+    list.extend(sorts)?;
+    Ok(list)
+}
+
 impl FunTable {
     /// No functions. It takes no memory.
     pub fn new(alloc: Global) -> FunTable
@@ -67,14 +76,24 @@ impl FunTable {
 
     /// Puts a function of a new name last, and gives its number. After want of memory the functions are
     /// unchanged.
-    pub fn add(&mut self, alloc: Global, name: &[u8], arity: Arity) -> Result<u32, Memory>
+    pub fn add(
+        &mut self,
+        alloc: Global,
+        name: &[u8],
+        args: &[SortId],
+        own: SortId,
+    ) -> Result<u32, Memory>
         requires { ¬ Contains (function_names self.old) name.now }
-        ensures ok { OnOk result (self.new ≡ self.old ++ record { name = name.now; args = arity.args; result = arity.result } ∷ []) }
+        ensures ok { OnOk result (self.new ≡ self.old ++ record { name = name.now; args = args.now; result = own } ∷ []) }
         ensures number { IfOk result (λ number. number ≡ length self.old) }
         ensures err { OnErr result (self.new ≡ self.old) }
     {
+        let list = listed(alloc, args)?;
         let before = self.arities.len();
-        self.arities.push(arity)?;
+        self.arities.push(Arity {
+            args: list,
+            result: own,
+        })?;
         match self.names.add(alloc, name) {
             Ok(number) => Ok(number),
             Err(_) => {

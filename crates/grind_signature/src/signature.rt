@@ -4,9 +4,9 @@ ghost use Rattle.std.specs.Str.{bytes_eq};
 ghost use Rattle.grind_schemes.specs.Labels.{IsLabel};
 ghost use Rattle.grind_signature.specs.Signatures.{Function, opening, function_names, IsHeld, with_sort, with_function, with_label, IsSignature};
 
-use crate::fun_table::{Arity, FunTable};
+use crate::fun_table::FunTable;
 use crate::name_table::NameTable;
-use grind_outside::{List, Memory};
+use grind_outside::Memory;
 use grind_term_graph::{FunId, SortId};
 use std::alloc::Global;
 use std::marker::Model;
@@ -101,14 +101,14 @@ impl Signature {
         &mut self,
         alloc: Global,
         name: &[u8],
-        args: List<SortId>,
+        args: &[SortId],
         own: SortId,
     ) -> Result<FunId, SignatureRefusal>
         requires label { IsLabel name.now }
-        requires args { All (λ sort. sort < length self.old.sorts) args }
-        requires few { length args ≤ 16 }
+        requires args { All (λ sort. sort < length self.old.sorts) args.now }
+        requires few { length args.now ≤ 16 }
         requires own { own < length self.old.sorts }
-        ensures ok { OnOk result (self.new ≡ with_function self.old (record { name = name.now; args = args; result = own })) }
+        ensures ok { OnOk result (self.new ≡ with_function self.old (record { name = name.now; args = args.now; result = own })) }
         ensures number { IfOk result (λ function. function ≡ length self.old.functions) }
         ensures new { OnOk result (¬ IsHeld self.old name.now) }
         ensures duplicate { IfErr result (λ refusal. refusal ≡ SignatureRefusal.Duplicate ↔ IsHeld self.old name.now) }
@@ -117,7 +117,7 @@ impl Signature {
         if self.holds(name) {
             return Err(SignatureRefusal::Duplicate);
         }
-        match self.functions.add(alloc, name, Arity { args, result: own }) {
+        match self.functions.add(alloc, name, args, own) {
             Ok(number) => Ok(FunId::new(number)),
             Err(_) => Err(SignatureRefusal::Memory),
         }

@@ -2,6 +2,7 @@ pub mod Asking
 pub mod Building
 pub mod Declaring
 pub mod Faults
+pub mod Headings
 pub mod Kept
 pub mod Laws
 pub mod States

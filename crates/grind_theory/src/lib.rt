@@ -7,6 +7,7 @@ mod declarations;
 pub mod elaborate;
 mod goal_faults;
 mod goals;
+mod heading;
 pub mod laws;
 mod limits;
 mod sorts;

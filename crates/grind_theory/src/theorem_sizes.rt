@@ -6,8 +6,7 @@ ghost use Rattle.grind_theory.specs.Theorems.{IsSmallTheorem};
 
 use grind_annotations::size_of_annots;
 use grind_grammar::{Annot, Tree};
-use grind_resolution::size_of;
-use grind_resolution::sizes::sum_within;
+use grind_resolution::{size_of, sum_within};
 use grind_term_graph::SortId;
 
 /// Whether a theorem has at most 16 variables, and its body and written patterns at most 256 nodes together.

@@ -2,6 +2,7 @@ use Rattle.std.proofs.Common.{sym, ap, subst, ◌≡◌, ◌∷◌, ℕ, List, A
 use Rattle.std.proofs.lemmas.List.Elements.{All-rest}
 use Rattle.grind_schemes.specs.Schemes.{IsScheme}
 use Rattle.grind_resolution.specs.Scopes.{Gives, variable_sorts}
+use Rattle.grind_resolution.specs.Contexts.{gives_in}
 use Rattle.grind_resolution.specs.Sorting.{IsSorted}
 use Rattle.grind_annotations.specs.Giving.{GivePatterns}
 use Rattle.grind_annotations.specs.Written.{AllWritten, annotation_of, annotations_of, IsPlacedAnnot}
@@ -12,8 +13,8 @@ use Rattle.grind_annotations.proofs.patterns.lists_of_annots.Goals as goal
 
 pub loop-annot-preserved : goal.loop-annot-preserved
 loop-annot-preserved c =
-    let text = c.args.text.now in
-    let gives = Gives c.args.signature.now c.args.scope.now in
+    let text = c.args.context.now.text.now in
+    let gives = gives_in c.args.context.now in
     let p : c.loop-annot.rest.now ≡ c.in-Some.annot.now ∷ c.in-Some.later.now = cc ((c.in-Some.ensures.cases).0) in
     let sorted = subst (AllWritten (IsSorted gives)) (ap (annotations_of text) p) c.loop-annot.invariant.sorted in
     record {
@@ -27,8 +28,8 @@ loop-annot-preserved c =
 
 pub returns-in_default-found-clause-found : goal.returns-in_default-found-clause-found
 returns-in_default-found-clause-found c =
-    let text = c.args.text.now in
-    let gives = Gives c.args.signature.now c.args.scope.now in
+    let text = c.args.context.now.text.now in
+    let gives = gives_in c.args.context.now in
     let p : c.loop-annot.rest.now ≡ c.in-Some.annot.now ∷ c.in-Some.later.now = cc ((c.in-Some.ensures.cases).0) in
     annotating-none gives c.args.vars.now c.args.body.now (annotations_of text c.args.annots.now) (annotations_of text c.loop-annot.rest.now)
     (annotations_of text c.in-Some.later.now) (annotation_of text c.in-Some.annot.now) c.loop-annot.lists (ap (annotations_of text) p) c.loop-annot.invariant.annotating
@@ -36,32 +37,32 @@ returns-in_default-found-clause-found c =
 
 pub returns-clause-found : goal.returns-clause-found
 returns-clause-found c =
-    let text = c.args.text.now in
-    annotating-end (Gives c.args.signature.now c.args.scope.now) c.args.vars.now c.args.body.now (annotations_of text c.args.annots.now) (annotations_of text c.loop-annot.rest.now)
+    let text = c.args.context.now.text.now in
+    annotating-end (gives_in c.args.context.now) c.args.vars.now c.args.body.now (annotations_of text c.args.annots.now) (annotations_of text c.loop-annot.rest.now)
     c.loop-annot.lists (ap (annotations_of text) (no_items c.loop-annot.rest.now c.in_default.ensures.cases)) c.loop-annot.invariant.annotating
 
 pub returns-clause-formed : goal.returns-clause-formed
 returns-clause-formed c =
-    let text = c.args.text.now in
-    let s = c.args.signature.now in
-    let scope = c.args.scope.now in
+    let text = c.args.context.now.text.now in
+    let s = c.args.context.now.signature.now in
+    let scope = c.args.context.now.scope.now in
     let gives = Gives s scope in
     let body = c.args.body.now in
     let all = annotations_of text c.args.annots.now in
     let lists = c.loop-annot.lists in
     let back = sym c.requires.variables in
-    let single = c.one_meaning.ensures s scope c.sort_count-sorts.ensures.keeps c.len-binders.ensures.distinct c.requires.apart in
+    let single = c.one_meaning.ensures s scope c.args.context.now.keeps c.args.context.now.distinct c.args.context.now.apart in
     let found = annotating-end gives c.args.vars.now body all (annotations_of text c.loop-annot.rest.now) lists
     (ap (annotations_of text) (no_items c.loop-annot.rest.now c.in_default.ensures.cases)) c.loop-annot.invariant.annotating in
     subst (λ (v : List ℕ). All (All (IsScheme v)) lists) c.requires.variables
-    (lists-formed gives (variable_sorts scope) (c.schemes_are_formed.ensures s scope c.sort_count-sorts.ensures.keeps single) body
+    (lists-formed gives (variable_sorts scope) (c.schemes_are_formed.ensures s scope c.args.context.now.keeps single) body
     (subst (λ (v : List ℕ). IsScheme v body) back c.requires.formed) all lists c.requires.sorted
     (subst (λ (v : List ℕ). GivePatterns gives v body all lists) back found))
 
 pub returns-clause-headed : goal.returns-clause-headed
 returns-clause-headed c =
-    let text = c.args.text.now in
-    let gives = Gives c.args.signature.now c.args.scope.now in
+    let text = c.args.context.now.text.now in
+    let gives = gives_in c.args.context.now in
     let all = annotations_of text c.args.annots.now in
     let found = annotating-end gives c.args.vars.now c.args.body.now all (annotations_of text c.loop-annot.rest.now) c.loop-annot.lists
     (ap (annotations_of text) (no_items c.loop-annot.rest.now c.in_default.ensures.cases)) c.loop-annot.invariant.annotating in
@@ -69,8 +70,8 @@ returns-clause-headed c =
 
 pub returns-clause-held : goal.returns-clause-held
 returns-clause-held c =
-    let text = c.args.text.now in
-    let gives = Gives c.args.signature.now c.args.scope.now in
+    let text = c.args.context.now.text.now in
+    let gives = gives_in c.args.context.now in
     let all = annotations_of text c.args.annots.now in
     let found = annotating-end gives c.args.vars.now c.args.body.now all (annotations_of text c.loop-annot.rest.now) c.loop-annot.lists
     (ap (annotations_of text) (no_items c.loop-annot.rest.now c.in_default.ensures.cases)) c.loop-annot.invariant.annotating in

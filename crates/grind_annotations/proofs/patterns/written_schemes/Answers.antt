@@ -1,7 +1,7 @@
 use Rattle.std.proofs.Common.{ap, ◌≡◌, ◌∷◌}
 use Rattle.std.proofs.lemmas.List.Elements.{All-rest}
 use Rattle.grind_grammar.specs.Keeps.{IsPlacedTree, term_of}
-use Rattle.grind_resolution.specs.Scopes.{Gives}
+use Rattle.grind_resolution.specs.Contexts.{gives_in}
 use Rattle.grind_resolution.specs.Sorting.{IsSorted}
 use Rattle.grind_annotations.specs.Written.{terms_of}
 use Rattle.grind_annotations.proofs.ItemLemmas.{no_items}
@@ -10,8 +10,8 @@ use Rattle.grind_annotations.proofs.patterns.written_schemes.Goals as goal
 
 pub loop-tree-preserved : goal.loop-tree-preserved
 loop-tree-preserved c =
-    let text = c.args.text.now in
-    let gives = Gives c.args.signature.now c.args.scope.now in
+    let text = c.args.context.now.text.now in
+    let gives = gives_in c.args.context.now in
     let p : c.loop-tree.rest.now ≡ c.in-Some.tree.now ∷ c.in-Some.later.now = cc ((c.in-Some.ensures.cases).0) in
     record {
       placed = All-rest (IsPlacedTree text) c.in-Some.tree.now c.in-Some.later.now c.loop-tree.rest.now p c.loop-tree.invariant.placed;
@@ -22,6 +22,6 @@ loop-tree-preserved c =
 
 pub returns : goal.returns
 returns c =
-    let text = c.args.text.now in
-    resolving-end (Gives c.args.signature.now c.args.scope.now) (terms_of text c.args.trees.now) (terms_of text c.loop-tree.rest.now) c.loop-tree.schemes
+    let text = c.args.context.now.text.now in
+    resolving-end (gives_in c.args.context.now) (terms_of text c.args.trees.now) (terms_of text c.loop-tree.rest.now) c.loop-tree.schemes
     (ap (terms_of text) (no_items c.loop-tree.rest.now c.in_default.ensures.cases)) c.loop-tree.invariant.resolving
