@@ -59,3 +59,11 @@ IsPlacedDecl text (decls.Goal name binders hyps show) =
     IsPlaced text name × AllByRecursion (IsPlacedBinder text) binders × AllByRecursion (IsPlacedTree text) hyps
     × IsPlacedTree text show
 IsPlacedDecl text (decls.Limit name value) = IsPlaced text name
+
+-- it is that of a sort, a function or a limit, and so has no heading of a name and binders
+abbrev pub HasNoHeading : Decl → Type 0
+HasNoHeading (decls.Sort name) = Unit {0}
+HasNoHeading (decls.Fun name args result) = Unit {0}
+HasNoHeading (decls.Theorem name binders annots body) = ⊥
+HasNoHeading (decls.Goal name binders hyps show) = ⊥
+HasNoHeading (decls.Limit name value) = Unit {0}

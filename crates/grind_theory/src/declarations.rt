@@ -7,7 +7,7 @@ ghost use Rattle.grind_annotations.specs.Written.{IsPlacedAnnot};
 ghost use Rattle.grind_theory.specs.States.{bound_names};
 ghost use Rattle.grind_theory.specs.Faults.{FaultOf};
 ghost use Rattle.grind_theory.specs.Theories.{Takes, AreDeclared};
-ghost use Rattle.grind_theory.specs.Kept.{declaration_of, IsPlacedDecl, HasLabels};
+ghost use Rattle.grind_theory.specs.Kept.{declaration_of, IsPlacedDecl, HasLabels, HasNoHeading};
 ghost use Rattle.grind_theory.specs.Headings.{name_in, bounds_in, theorem_under, goal_under};
 ghost use Rattle.grind_theory.specs.Building.{state_at};
 
@@ -96,8 +96,8 @@ fn declare_goal(
     }
 }
 
-/// Takes one declaration.
-pub(crate) fn declare(
+// Takes a declaration of a sort, a function or a limit.
+fn declare_name(
     alloc: Global,
     text: &[u8],
     building: &mut Building,
@@ -105,6 +105,7 @@ pub(crate) fn declare(
 ) -> Result<(), DeclRefusal>
     requires placed { IsPlacedDecl text.now decl.now }
     requires labels { HasLabels (declaration_of text.now decl.now) }
+    requires name { HasNoHeading decl.now }
     ensures ok { OnOk result (Takes (state_at building.old) (declaration_of text.now decl.now) (state_at building.new)) }
     ensures faulty { (fault : Fault) → result ≡ Err (DeclRefusal.Faulty fault) → FaultOf (state_at building.old) (declaration_of text.now decl.now) fault }
     ensures declared { AreDeclared building.old.signature building.old.goals → OnOk result (AreDeclared building.new.signature building.new.goals) }
@@ -119,6 +120,35 @@ pub(crate) fn declare(
             };
             declare_fun(alloc, text, &mut building.signature, &fun)
         }
+        Decl::Theorem { .. } => unreachable!(),
+        Decl::Goal { .. } => unreachable!(),
+        Decl::Limit { name, value } => declare_limit(
+            text,
+            &mut building.limits,
+            &mut building.set,
+            *name,
+            *value,
+        ),
+    }
+}
+
+/// Takes one declaration.
+pub(crate) fn declare(
+    alloc: Global,
+    text: &[u8],
+    building: &mut Building,
+    decl: &Decl,
+) -> Result<(), DeclRefusal>
+    requires placed { IsPlacedDecl text.now decl.now }
+    requires labels { HasLabels (declaration_of text.now decl.now) }
+    ensures ok { OnOk result (Takes (state_at building.old) (declaration_of text.now decl.now) (state_at building.new)) }
+    ensures faulty { (fault : Fault) → result ≡ Err (DeclRefusal.Faulty fault) → FaultOf (state_at building.old) (declaration_of text.now decl.now) fault }
+    ensures declared { AreDeclared building.old.signature building.old.goals → OnOk result (AreDeclared building.new.signature building.new.goals) }
+{
+    match decl {
+        Decl::Sort { .. } => declare_name(alloc, text, building, decl),
+        Decl::Fun { .. } => declare_name(alloc, text, building, decl),
+        Decl::Limit { .. } => declare_name(alloc, text, building, decl),
         Decl::Theorem {
             name,
             binders,
@@ -149,12 +179,5 @@ pub(crate) fn declare(
             let trees = hyps.as_slice();
             declare_goal(building, &heading, trees, show)
         }
-        Decl::Limit { name, value } => declare_limit(
-            text,
-            &mut building.limits,
-            &mut building.set,
-            *name,
-            *value,
-        ),
     }
 }
