@@ -44,7 +44,7 @@ FILES = {
     "grind_grammar": ["Lexemes", "Terms", "Names", "Grammar", "Parentheses", "Files", "Keeps", "Laws"],
     "grind_syntax": ["Refusals"],
     "grind_signature": ["Signatures"],
-    "grind_resolution": ["Scopes", "Sorting", "Resolved", "DeclaredSchemes", "Sizes", "Same", "Laws"],
+    "grind_resolution": ["Scopes", "Contexts", "Sorting", "Resolved", "DeclaredSchemes", "Sizes", "Same", "Laws"],
     "grind_patterns": ["Copies", "Patterns"],
     "grind_annotations": ["Written", "Giving", "Asking"],
     "grind_theory": ["States", "Faults", "Theories", "Kept", "Building", "Laws"],

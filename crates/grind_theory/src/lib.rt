@@ -4,7 +4,7 @@
 
 mod binders;
 mod declarations;
-pub mod elaborate;
+pub mod elaboration;
 mod goal_faults;
 mod goals;
 mod heading;
@@ -16,5 +16,6 @@ mod theorem_sizes;
 mod theorems;
 pub mod theory;
 
+pub use elaboration::elaborate;
 pub use limits::LimitKind;
 pub use theory::{Fault, Theory, TheoryRefusal};

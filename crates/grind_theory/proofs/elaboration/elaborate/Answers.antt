@@ -8,7 +8,7 @@ use Rattle.grind_theory.specs.Building.{state_at}
 use Rattle.grind_annotations.proofs.ItemLemmas.{map-All, no_items}
 use Rattle.grind_theory.proofs.FunTaking.{same_Err}
 use Rattle.grind_theory.proofs.Underway.{IsUnderway, decls-kept, underway-start, underway-next, underway-end, underway-refused}
-use Rattle.grind_theory.proofs.elaborate.elaborate.Goals as goal
+use Rattle.grind_theory.proofs.elaboration.elaborate.Goals as goal
 
 pub loop-decl-init : goal.loop-decl-init
 loop-decl-init c =

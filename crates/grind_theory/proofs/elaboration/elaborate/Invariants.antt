@@ -3,7 +3,7 @@ use Rattle.grind_theory.specs.Theories.{AreDeclared}
 use Rattle.grind_theory.specs.Kept.{declaration_of, IsPlacedDecl, HasLabels}
 use Rattle.grind_theory.specs.Building.{state_at}
 use Rattle.grind_theory.proofs.Underway.{IsUnderway}
-use Rattle.grind_theory.proofs.elaborate.elaborate.Given as goal
+use Rattle.grind_theory.proofs.elaboration.elaborate.Given as goal
 
 -- what the declarations that are left lead to all lead to, and what is declared so far is
 abbrev pub invariant-loop-decl : goal.invariant-loop-decl
