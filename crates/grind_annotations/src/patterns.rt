@@ -1,4 +1,4 @@
-//! The patterns that the annotations of a theorem give it.
+//! The patterns that annotations give a theorem.
 ghost use Rattle.std.specs.Prelude.{◌≡◌, All, IfOk, IfSome};
 ghost use Rattle.std.specs.List.{AllByRecursion};
 ghost use Rattle.grind_schemes.specs.Schemes.{IsScheme, IsHeadedByFunction};
@@ -54,7 +54,7 @@ fn kind_of(context: &Context<'_>, annot: &Annot) -> Result<Kind, Memory>
     }
 }
 
-// The patterns that an annotation gives; None exactly where it gives none.
+// The patterns that an annotation gives, or None if it gives none.
 fn patterns_of_annot(
     context: &Context<'_>,
     vars: &[SortId],
@@ -72,7 +72,7 @@ fn patterns_of_annot(
     Ok(found)
 }
 
-/// The lists of patterns that the annotations give, one each and in order; None exactly where one of them gives none.
+/// The list of patterns that each annotation gives, in order, or None if one of them gives none.
 pub fn lists_of_annots(
     context: &Context<'_>,
     vars: &[SortId],

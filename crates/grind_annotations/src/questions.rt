@@ -1,4 +1,4 @@
-//! What is asked of terms: of one, of each in a list, and of each that annotations write.
+//! Questions about a term, about each term of a list, and about each term that annotations write.
 ghost use Rattle.std.specs.Prelude.{◌↔◌, All, IsTrue};
 ghost use Rattle.std.specs.List.{AllByRecursion};
 ghost use Rattle.grind_grammar.specs.Keeps.{IsPlacedTree, term_of};
@@ -11,7 +11,7 @@ use grind_grammar::{Annot, Tree};
 use grind_resolution::{Context, is_counted, is_known, sort_of};
 use grind_term_graph::SortId;
 
-/// What is asked of a term.
+/// A question about a term.
 #[derive(Clone, Copy, Debug, PartialEq, Eq)]
 pub enum Question {
     /// Whether each name stands for something.
@@ -46,7 +46,7 @@ fn is_formula(context: &Context<'_>, tree: &Tree) -> bool
     }
 }
 
-/// Whether it is so of a term.
+/// Whether the answer for a term is yes.
 pub fn answers(question: Question, context: &Context<'_>, tree: &Tree) -> bool
     requires { IsPlacedTree context.now.text.now tree.now }
     ensures { IsTrue result ↔ Answers question (gives_in context.now) (term_of context.now.text.now tree.now) }
@@ -59,7 +59,7 @@ pub fn answers(question: Question, context: &Context<'_>, tree: &Tree) -> bool
     }
 }
 
-/// Whether it is so of each of the terms.
+/// Whether the answer for each of the terms is yes.
 pub fn all_answer(question: Question, context: &Context<'_>, trees: &[Tree]) -> bool
     requires { All (IsPlacedTree context.now.text.now) trees.now }
     ensures { IsTrue result ↔ All (λ tree. Answers question (gives_in context.now) (term_of context.now.text.now tree)) trees.now }
@@ -72,7 +72,7 @@ pub fn all_answer(question: Question, context: &Context<'_>, trees: &[Tree]) -> 
     true
 }
 
-// Whether it is so of each term that an annotation writes.
+// Whether the answer for each term that an annotation writes is yes.
 fn annot_answers(question: Question, context: &Context<'_>, annot: &Annot) -> bool
     requires { IsPlacedAnnot context.now.text.now annot.now }
     ensures { IsTrue result ↔ AllByRecursion (Answers question (gives_in context.now)) (written (annotation_of context.now.text.now annot.now)) }
@@ -89,7 +89,7 @@ fn annot_answers(question: Question, context: &Context<'_>, annot: &Annot) -> bo
     }
 }
 
-/// Whether it is so of each term that the annotations write.
+/// Whether the answer for each term that the annotations write is yes.
 pub fn annots_answer(question: Question, context: &Context<'_>, annots: &[Annot]) -> bool
     requires { All (IsPlacedAnnot context.now.text.now) annots.now }
     ensures { IsTrue result ↔ All (λ annot. AllByRecursion (Answers question (gives_in context.now)) (written (annotation_of context.now.text.now annot))) annots.now }

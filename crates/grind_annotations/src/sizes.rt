@@ -5,7 +5,7 @@ ghost use Rattle.grind_annotations.specs.Written.{terms_of, annotation_of, annot
 use grind_grammar::{Annot, Tree};
 use grind_resolution::{size_of, sum_within};
 
-// How many nodes the terms have together, or the limit where that is less.
+// How many nodes the terms have together, at most the limit.
 fn size_of_trees(trees: &[Tree], limit: u32) -> u32
     ensures value { (text : List ℕ) → result ≡ min (sizes (terms_of text trees.now)) limit }
     ensures within { result ≤ limit }
@@ -21,7 +21,7 @@ fn size_of_trees(trees: &[Tree], limit: u32) -> u32
     total
 }
 
-// How many nodes the terms that an annotation writes have together, or the limit where that is less.
+// How many nodes the terms that an annotation writes have together, at most the limit.
 fn size_of_annot(annot: &Annot, limit: u32) -> u32
     ensures value { (text : List ℕ) → result ≡ min (sizes (written (annotation_of text annot.now))) limit }
     ensures within { result ≤ limit }
@@ -38,7 +38,7 @@ fn size_of_annot(annot: &Annot, limit: u32) -> u32
     }
 }
 
-/// How many nodes the terms that the annotations write have together, or the limit where that is less.
+/// How many nodes the terms that the annotations write have together, at most the limit.
 pub fn size_of_annots(annots: &[Annot], limit: u32) -> u32
     ensures value { (text : List ℕ) → result ≡ min (written_sizes (annotations_of text annots.now)) limit }
     ensures within { result ≤ limit }

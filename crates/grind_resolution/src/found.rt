@@ -22,7 +22,7 @@ pub struct Found<'a> {
     pub sort: SortId,
 }
 
-// What the binder of this number stands for.
+// What the binder with this number stands for.
 fn binder_found<'a>(context: &'a Context<'_>, name: &[u8], number: u32) -> Found<'a>
     requires { position (bytes_eq name.now) (binder_names context.now.scope.now.binders) ≡ Some number }
     ensures { IsOnly (gives_in context.now) name.now (given_data result.meaning result.args.now result.sort) }
@@ -34,7 +34,7 @@ fn binder_found<'a>(context: &'a Context<'_>, name: &[u8], number: u32) -> Found
     }
 }
 
-// What the function of this number stands for.
+// What the function with this number stands for.
 fn function_found<'a>(context: &'a Context<'_>, name: &[u8], function: FunId) -> Found<'a>
     requires { position (bytes_eq name.now) (function_names context.now.signature.now.functions) ≡ Some function }
     ensures { IsOnly (gives_in context.now) name.now (given_data result.meaning result.args.now result.sort) }
@@ -56,7 +56,7 @@ fn none_found<'a>(context: &'a Context<'_>, name: &[u8]) -> Option<Found<'a>>
     None
 }
 
-// What the name stands for, or None exactly where it stands for nothing.
+// What the name stands for, or None if it stands for nothing.
 fn find_name<'a>(context: &'a Context<'_>, name: &[u8]) -> Option<Found<'a>>
     ensures { MatchOption result (IsUnknown (gives_in context.now) name.now)
         (λ found. IsOnly (gives_in context.now) name.now (given_data found.meaning found.args.now found.sort)) }
@@ -78,7 +78,7 @@ pub fn bytes_of(text: &[u8], name: Name) -> &[u8]
     &text[name.start as usize..name.end as usize]
 }
 
-/// What the name at a place of the text stands for, or None exactly where it stands for nothing.
+/// What the name at a place of the text stands for, or None if it stands for nothing.
 pub fn name_at<'a>(context: &'a Context<'_>, name: Name) -> Option<Found<'a>>
     requires { IsPlaced context.now.text.now name }
     ensures { MatchOption result (IsUnknown (gives_in context.now) (name_of context.now.text.now name))

@@ -15,7 +15,7 @@ pub mod sorts;
 
 pub use context::Context;
 pub use counted::is_counted;
-pub use found::{Found, bytes_of};
+pub use found::{Found, bytes_of, name_at};
 pub use known::is_known;
 pub use meaning::{BinderKind, Meaning};
 pub use resolver::resolve;

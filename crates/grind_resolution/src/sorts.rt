@@ -10,7 +10,7 @@ use crate::found::name_at;
 use grind_grammar::{Binary, Tree, Unary};
 use grind_term_graph::SortId;
 
-// Whether a sort was found, and it is this one.
+// Whether the sort that was found is this one.
 fn is_sort(found: Option<SortId>, sort: SortId) -> bool
     ensures { IsTrue result ↔ (found ≡ Some sort) }
 {
@@ -79,7 +79,7 @@ fn binary_of(op: Binary, left: Option<SortId>, right: Option<SortId>) -> Option<
     Some(sort_of_binary(op))
 }
 
-/// The sort of a term, or None exactly where it has none. The recursion is as deep as the term.
+/// The sort of a term, or None if it has none. The recursion is as deep as the term.
 #[cycle(sorts)]
 pub fn sort_of(context: &Context<'_>, tree: &Tree) -> Option<SortId>
     requires { IsPlacedTree context.now.text.now tree.now }

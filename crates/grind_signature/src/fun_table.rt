@@ -19,7 +19,7 @@ pub struct Arity {
     pub result: SortId,
 }
 
-/// Functions in order, no two of one name. Contracts see the list of them.
+/// Functions in order, with different names. Contracts see them as a list.
 #[derive(Drop)]
 pub struct FunTable {
     names: NameTable,
@@ -48,7 +48,7 @@ fn listed(alloc: Global, sorts: &[SortId]) -> Result<List<SortId>, Memory>
 }
 
 impl FunTable {
-    /// No functions. It takes no memory.
+    /// An empty table, made without allocating.
     pub fn new(alloc: Global) -> FunTable
         ensures { result ≡ [] }
     {
@@ -58,7 +58,7 @@ impl FunTable {
         }
     }
 
-    /// The number of the function of that name, or None exactly where there is none.
+    /// The number of the function with that name, or None if there is none.
     pub fn find(&self, name: &[u8]) -> Option<u32>
         ensures value { result ≡ position (bytes_eq name.now) (function_names self.now) }
         ensures differ { AllPairs (λ a b. a ≢ b) (function_names self.now) }
@@ -67,15 +67,14 @@ impl FunTable {
         self.names.find(name)
     }
 
-    /// Whether there is a function of that name.
+    /// Whether there is a function with that name.
     pub fn contains(&self, name: &[u8]) -> bool
         ensures { IsTrue result ↔ Contains (function_names self.now) name.now }
     {
         self.names.contains(name)
     }
 
-    /// Puts a function of a new name last, and gives its number. After want of memory the functions are
-    /// unchanged.
+    /// Appends a function with a new name and returns its number. Out of memory, the functions are unchanged.
     pub fn add(
         &mut self,
         alloc: Global,
@@ -103,7 +102,7 @@ impl FunTable {
         }
     }
 
-    /// The name of the function of that number.
+    /// The name of the function with that number.
     pub fn name(&self, number: u32) -> &[u8]
         requires { number < length self.now }
         ensures { (f : Function) → slice_get self.now number ≡ Some f → result.now ≡ f.name }
@@ -111,7 +110,7 @@ impl FunTable {
         self.names.name(number)
     }
 
-    /// The sorts of the function of that number.
+    /// The sorts of the function with that number.
     pub fn arity(&self, number: u32) -> &Arity
         requires { number < length self.now }
         ensures { (f : Function) → slice_get self.now number ≡ Some f → (result.now.args ≡ f.args) × (result.now.result ≡ f.result) }

@@ -14,9 +14,9 @@ use std::marker::Model;
 /// Why a name was not declared.
 #[derive(Clone, Copy, Debug, PartialEq, Eq)]
 pub enum SignatureRefusal {
-    /// The name is that of a sort, a function or a label already.
+    /// The name already belongs to a sort, a function or a label.
     Duplicate,
-    /// Memory was wanted, and there was none.
+    /// Out of memory.
     Memory,
 }
 
@@ -40,7 +40,7 @@ impl Model for Signature {
 }
 
 impl Signature {
-    /// The sorts `Prop` and `Int`, and nothing else.
+    /// The signature with the sorts `Prop` and `Int` alone.
     pub fn new(alloc: Global) -> Result<Signature, Memory>
         ensures { IfOk result (λ signature. signature ≡ opening) }
     {
@@ -54,7 +54,7 @@ impl Signature {
         })
     }
 
-    /// How many sorts there are. Whoever asks learns what every signature keeps.
+    /// How many sorts there are. The contract also says what holds of every signature.
     pub fn sort_count(&self) -> u32
         ensures value { result ≡ length self.now.sorts }
         ensures keeps { IsSignature self.now }
@@ -70,7 +70,7 @@ impl Signature {
         self.sorts.contains(name) || self.functions.contains(name) || self.labels.contains(name)
     }
 
-    /// Declares a sort, and gives its number. After a refusal the signature is unchanged.
+    /// Declares a sort and returns its number. After a refusal the signature is unchanged.
     ///
     /// # Errors
     ///
@@ -92,7 +92,7 @@ impl Signature {
         }
     }
 
-    /// Declares a function, and gives its number. After a refusal the signature is unchanged.
+    /// Declares a function and returns its number. After a refusal the signature is unchanged.
     ///
     /// # Errors
     ///
@@ -144,7 +144,7 @@ impl Signature {
         }
     }
 
-    /// The number of a sort, or None exactly where no sort has the name.
+    /// The number of a sort, or None if no sort has the name.
     pub fn find_sort(&self, name: &[u8]) -> Option<SortId>
         ensures { result ≡ position (bytes_eq name.now) self.now.sorts }
     {
@@ -154,7 +154,7 @@ impl Signature {
         }
     }
 
-    /// The number of a function, or None exactly where no function has the name.
+    /// The number of a function, or None if no function has the name.
     pub fn find_fun(&self, name: &[u8]) -> Option<FunId>
         ensures { result ≡ position (bytes_eq name.now) (function_names self.now.functions) }
     {

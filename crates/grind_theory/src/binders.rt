@@ -12,7 +12,7 @@ use grind_resolution::{BinderKind, Scope, bytes_of};
 use grind_signature::{NameTable, Signature};
 use grind_term_graph::SortId;
 
-// Whether the names of the binders are new, and no two of them the same.
+// Whether the names of the binders are new and different.
 fn are_new(signature: &Signature, heading: &Heading<'_>) -> Result<bool, Memory>
     ensures { IfOk result (λ fresh. IsTrue fresh ↔ AreNewAfter signature.now [] (bound_names (bounds_in heading.now))) }
 {
@@ -32,7 +32,7 @@ fn are_new(signature: &Signature, heading: &Heading<'_>) -> Result<bool, Memory>
     Ok(true)
 }
 
-// The scope of the binders, or None exactly where the sort of one of them is not declared.
+// The scope of the binders, or None if the sort of one of them is not declared.
 fn read_scope(
     signature: &Signature,
     kind: BinderKind,
@@ -73,7 +73,7 @@ pub(crate) fn sorts_of_binders(
     Ok(done)
 }
 
-/// The scope of the binders of a declaration, if its name and theirs are new and their sorts declared.
+/// The scope of the binders of a declaration, if its name and theirs are new and their sorts are declared.
 pub(crate) fn open_scope(
     signature: &Signature,
     kind: BinderKind,

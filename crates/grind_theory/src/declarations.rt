@@ -33,13 +33,13 @@ pub(crate) struct Building {
     pub(crate) theorems: List<Theorem>,
     /// The limits of a search.
     pub(crate) limits: Limits,
-    /// Those of them that were set.
+    /// Which of them have been set.
     pub(crate) set: List<LimitKind>,
     /// The goals, in order.
     pub(crate) goals: List<Goal>,
 }
 
-// Declares a theorem, and puts it last.
+// Declares a theorem and appends it.
 fn declare_theorem(
     building: &mut Building,
     heading: &Heading<'_>,
@@ -67,7 +67,7 @@ fn declare_theorem(
     }
 }
 
-// Declares a goal, and puts it last.
+// Declares a goal and appends it.
 fn declare_goal(
     building: &mut Building,
     heading: &Heading<'_>,

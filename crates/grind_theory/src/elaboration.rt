@@ -13,7 +13,7 @@ use grind_schemes::{Lemmas, Limits};
 use grind_signature::Signature;
 use std::alloc::Global;
 
-// Nothing is declared, and no limit is set.
+// The beginning: nothing is declared, and no limit is set.
 fn begin(alloc: Global) -> Result<Building, Memory>
     ensures state { IfOk result (λ building. state_at building ≡ opening_state) }
     ensures none { IfOk result (λ building. building.goals ≡ []) }
@@ -28,7 +28,7 @@ fn begin(alloc: Global) -> Result<Building, Memory>
     })
 }
 
-// The refusal of the declaration of that number.
+// The refusal of the declaration with that number.
 fn refused(number: u32, refusal: DeclRefusal) -> TheoryRefusal
     ensures { (decl : ℕ) (fault : Fault) → result ≡ TheoryRefusal.Bad decl fault → (number ≡ decl) × (refusal ≡ DeclRefusal.Faulty fault) }
 {

@@ -12,7 +12,7 @@ use grind_annotations::{Question, all_answer, answers};
 use grind_grammar::Tree;
 use grind_resolution::Context;
 
-// Whether it is so of the hypotheses and the conclusion.
+// Whether the answer for each hypothesis and for the conclusion is yes.
 fn goal_answers(question: Question, context: &Context<'_>, hyps: &[Tree], show: &Tree) -> bool
     requires hyps { All (IsPlacedTree context.now.text.now) hyps.now }
     requires show { IsPlacedTree context.now.text.now show.now }
@@ -25,8 +25,8 @@ fn goal_answers(question: Question, context: &Context<'_>, hyps: &[Tree], show: 
     answers(question, context, show)
 }
 
-/// The first fault of the hypotheses and the conclusion of a goal by what names stand for, or None exactly where they
-/// are formulas.
+/// The first fault of the hypotheses and the conclusion of a goal by what names stand for, or None if they are
+/// formulas.
 pub(crate) fn fault_of_formulas(context: &Context<'_>, hyps: &[Tree], show: &Tree) -> Option<Fault>
     requires hyps { All (IsPlacedTree context.now.text.now) hyps.now }
     requires show { IsPlacedTree context.now.text.now show.now }

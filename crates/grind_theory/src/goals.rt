@@ -100,7 +100,7 @@ fn intern_formulas(
     Ok(ids)
 }
 
-// The table of the hypotheses, in order, and of the conclusion, which is put there last.
+// The table of the hypotheses, in order, and then of the conclusion.
 fn goal_terms(context: &Context<'_>, hyps: &[Tree], show: &Tree) -> Result<GoalTerms, DeclRefusal>
     requires hyps { All (IsPlacedTree context.now.text.now) hyps.now }
     requires show { IsPlacedTree context.now.text.now show.now }

@@ -26,7 +26,7 @@ pub enum LimitKind {
     Pairs,
 }
 
-// The limit of that name, or None exactly where there is none.
+// The limit with that name, or None if there is none.
 fn find_limit(name: &[u8]) -> Option<LimitKind>
     ensures { MatchOption result ((kind : LimitKind) → ¬ (name.now ≡ limit_name kind)) (λ kind. name.now ≡ limit_name kind) }
 {

@@ -15,7 +15,7 @@ use grind_signature::{Signature, SignatureRefusal};
 use grind_term_graph::SortId;
 use std::alloc::Global;
 
-/// A name that is held already is a duplicate.
+/// The refusal of a declaration whose name was refused.
 pub(crate) fn refusal_of(refusal: SignatureRefusal) -> DeclRefusal
     ensures { (fault : Fault) → result ≡ DeclRefusal.Faulty fault → (refusal ≡ SignatureRefusal.Duplicate) × (fault ≡ Fault.Duplicate) }
 {
@@ -43,7 +43,7 @@ pub(crate) fn declare_sort(
     }
 }
 
-/// The sorts of these names, or None exactly where one of them is no sort's.
+/// The sorts with these names, or None if one of them is not the name of a sort.
 pub(crate) fn find_sorts(
     alloc: Global,
     text: &[u8],
@@ -65,7 +65,7 @@ pub(crate) fn find_sorts(
     Ok(Some(done))
 }
 
-/// Whether none of the sorts is that of formulas.
+/// Whether none of the sorts is `Prop`.
 pub(crate) fn has_no_formulas(sorts: &[SortId]) -> bool
     ensures { IsTrue result ↔ All (λ sort. sort ≢ prop) sorts.now }
 {

@@ -13,7 +13,7 @@ use grind_grammar::{Annot, Tree};
 use grind_resolution::Context;
 use grind_term_graph::SortId;
 
-// Whether it is so of the body, and of each term that the annotations write.
+// Whether the answer for the body and for each term that the annotations write is yes.
 fn theorem_answers(question: Question, context: &Context<'_>, annots: &[Annot], body: &Tree) -> bool
     requires annots { All (IsPlacedAnnot context.now.text.now) annots.now }
     requires body { IsPlacedTree context.now.text.now body.now }
@@ -41,8 +41,7 @@ fn are_terms_sorted(context: &Context<'_>, vars: &[SortId], annots: &[Annot], bo
     answers(Question::Formula, context, body)
 }
 
-/// The first fault of a theorem's body and written patterns by what names stand for, or None exactly where there is
-/// none.
+/// The first fault of a theorem's body and written patterns by what names stand for, or None if there is none.
 pub(crate) fn fault_of_terms(
     context: &Context<'_>,
     vars: &[SortId],

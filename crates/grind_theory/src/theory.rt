@@ -43,7 +43,7 @@ pub enum TheoryRefusal {
         /// The first fault that it has.
         fault: Fault,
     },
-    /// Memory was wanted, and there was none.
+    /// Out of memory.
     Memory,
 }
 
@@ -52,7 +52,7 @@ pub enum TheoryRefusal {
 pub(crate) enum DeclRefusal {
     /// This is its first fault.
     Faulty(Fault),
-    /// Memory was wanted, and there was none.
+    /// Out of memory.
     Memory,
 }
 
