@@ -8,7 +8,7 @@ use grind_grammar::Decl;
 use grind_grammar::laws::{names_are_words, one_parse};
 use grind_outside::List;
 use grind_syntax::parse::{SyntaxRefusal, parse};
-use grind_theory::elaborate::elaborate;
+use grind_theory::elaborate;
 use grind_theory::laws::{one_refusal, one_theory};
 use grind_theory::theory::{Fault, Theory, TheoryRefusal};
 use grind_tokens::tokens::{LexRefusal, Token, names_are_plain, one_reading, tokens};

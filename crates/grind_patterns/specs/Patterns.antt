@@ -76,7 +76,7 @@ abbrev mutual
   hypotheses_of_row (more_of-Scheme hyp (more_of-Scheme rest end_of-Scheme)) = hyp ∷ hypotheses_of rest
   hypotheses_of_row _ = []
 
--- of an implication the conclusion behind it, and of another formula the formula
+-- of an implication the conclusion after it, and of another formula the formula
 abbrev pub conclusion_or : Head → Option Scheme → Scheme → Scheme
 conclusion_or Implies (Some behind) formula = behind
 conclusion_or _ _ formula = formula

@@ -10,7 +10,7 @@ use grind_schemes::Scheme;
 use grind_term_graph::Head;
 use std::alloc::Global;
 
-/// The conclusion of a formula: the formula behind its last hypothesis.
+/// The conclusion of a formula: the formula after its last hypothesis.
 pub fn conclusion(body: &Scheme) -> &Scheme
     ensures { result.now ≡ conclusion_of body.now }
 {
@@ -21,7 +21,7 @@ pub fn conclusion(body: &Scheme) -> &Scheme
     rest
 }
 
-// Walks the hypotheses of a formula, one behind the other.
+// Walks the hypotheses of a formula, one after the other.
 pub(crate) fn walk_hypotheses(
     alloc: Global,
     body: &Scheme,
@@ -37,7 +37,7 @@ pub(crate) fn walk_hypotheses(
     Ok(())
 }
 
-// The first hypothesis of a formula and the formula behind it; None where there is no hypothesis.
+// The first hypothesis of a formula and the formula after it; None if there is none.
 pub(crate) fn implication(formula: &Scheme) -> Option<(&Scheme, &Scheme)>
     ensures hyps { IfSome result (λ parts. hypotheses_of formula.now ≡ parts.0.now ∷ hypotheses_of parts.1.now) }
     ensures conclusion { IfSome result (λ parts. conclusion_of formula.now ≡ conclusion_of parts.1.now) }
@@ -62,7 +62,7 @@ fn implied(head: Head, args: &[Scheme]) -> Option<(&Scheme, &Scheme)>
     }
 }
 
-// The sides of an equation; None where the formula is none.
+// The sides of an equation, or None if the formula is not one.
 pub(crate) fn equation(formula: &Scheme) -> Option<(&Scheme, &Scheme)>
     ensures sides { IfSome result (λ parts. IsEquation parts.0.now parts.1.now formula.now) }
     ensures none { IsNone result → (left : Formula) → (right : Formula) → ¬ IsEquation left right formula.now }

@@ -6,7 +6,7 @@ use grind_outside::{List, Memory};
 use grind_schemes::Scheme;
 use std::alloc::Global;
 
-/// The same scheme once more.
+/// A copy of the scheme.
 #[cycle(copying)]
 pub fn copied(alloc: Global, scheme: &Scheme) -> Result<Scheme, Memory>
     ensures { IfOk result (λ copy. IsCopy copy scheme.now) }
@@ -27,7 +27,7 @@ pub fn copied(alloc: Global, scheme: &Scheme) -> Result<Scheme, Memory>
     }
 }
 
-// The same schemes once more.
+// Copies of the schemes.
 #[cycle(copying)]
 fn copied_each(alloc: Global, schemes: &[Scheme]) -> Result<Vec<Scheme>, Memory>
     ensures { IfOk result (λ copies. AreCopies copies.items schemes.now) }
@@ -40,7 +40,7 @@ fn copied_each(alloc: Global, schemes: &[Scheme]) -> Result<Vec<Scheme>, Memory>
     Ok(copies)
 }
 
-// Puts a copy at the end.
+// Appends a copy.
 fn pushed(copies: &mut Vec<Scheme>, copy: Scheme) -> Result<(), Memory>
     ensures { OnOk result (copies.new.items ≡ copies.old.items ++ copy ∷ []) }
 {
@@ -50,7 +50,7 @@ fn pushed(copies: &mut Vec<Scheme>, copy: Scheme) -> Result<(), Memory>
     }
 }
 
-// The same schemes once more, in a list.
+// Copies of the schemes, in a list.
 pub(crate) fn copied_list(alloc: Global, schemes: &[Scheme]) -> Result<List<Scheme>, Memory>
     ensures { IfOk result (λ copies. AreCopies copies schemes.now) }
 {
@@ -62,7 +62,7 @@ pub(crate) fn copied_list(alloc: Global, schemes: &[Scheme]) -> Result<List<Sche
     Ok(copies)
 }
 
-// A list of the same scheme once more.
+// The list of a copy of the scheme.
 pub(crate) fn copied_alone(alloc: Global, scheme: &Scheme) -> Result<List<Scheme>, Memory>
     ensures { IfOk result (λ copies. AreCopies copies (scheme.now ∷ [])) }
 {

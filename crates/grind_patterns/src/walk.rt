@@ -9,8 +9,8 @@ use grind_outside::{List, Memory};
 use grind_schemes::Scheme;
 use std::alloc::Global;
 
-// Walks a scheme from the outside to the inside and from the left, and puts a copy of each term that it takes at the
-// end. It goes not inside a pattern term.
+// Walks a scheme from the outside to the inside and from the left, and appends a copy of each term that it takes.
+// It does not go inside a pattern term.
 #[cycle(walking)]
 pub(crate) fn walk(alloc: Global, scheme: &Scheme, taken: &mut List<Scheme>) -> Result<(), Memory>
     ensures { OnOk result (WalksOn taken.old scheme.now taken.new) }
@@ -26,7 +26,7 @@ pub(crate) fn walk(alloc: Global, scheme: &Scheme, taken: &mut List<Scheme>) -> 
     }
 }
 
-// Walks several schemes, one behind the other.
+// Walks several schemes, one after the other.
 #[cycle(walking)]
 fn walk_each(alloc: Global, schemes: &[Scheme], taken: &mut List<Scheme>) -> Result<(), Memory>
     ensures { OnOk result (WalksEachOn taken.old schemes.now taken.new) }

@@ -1,11 +1,10 @@
 -- A look-up of a name finds what the name stands for, and nothing else.
-use Rattle.std.specs.Prelude.{◌≡◌, ◌≢◌, ℕ, ◌<◌, List, [], ◌∷◌, ◌++◌, length, slice_get, position, Contains, Option, Some, None, refl}
+use Rattle.std.specs.Prelude.{◌≡◌, ◌≢◌, ℕ, ◌<◌, List, [], length, slice_get, position, Contains, Option, Some, None, refl}
 use Rattle.std.specs.List.{AllPairs}
 use Rattle.std.specs.Option.{option_map}
 use Rattle.std.specs.Str.{bytes_eq}
-use Rattle.std.proofs.Common.{arith, sym, ap, subst, ◌∙◌, inl, inr, get_or}
-use Rattle.std.proofs.lemmas.List.{length-map, map-append}
-use Rattle.std.proofs.lemmas.List.Elements.{Contains-push_cases}
+use Rattle.std.proofs.Common.{arith, sym, ap, ◌∙◌, inl, inr, get_or}
+use Rattle.std.proofs.lemmas.List.{length-map}
 use Rattle.std.proofs.lemmas.Option.{slice_get-map, slice_get-get_or, slice_get_within, get_or_from_slice_get, same_Some}
 use Rattle.grind_term_graph.specs.declared.head.Head.TheVariants as heads
 use Rattle.grind_schemes.specs.declared.goal.Constant.{Constant}
@@ -13,7 +12,7 @@ use Rattle.grind_signature.specs.Signatures.{Function, SignatureData, function_n
 use Rattle.grind_signature.proofs.NameLists.{slice_get-position, Contains-slice_get, absent-position}
 use Rattle.grind_resolution.specs.declared.meaning.Meaning.{Meaning}
 use Rattle.grind_resolution.specs.declared.meaning.Meaning.TheVariants as meanings
-use Rattle.grind_resolution.specs.Scopes.{ScopeData, scope_data, binder_names, AreDistinct, AreApart, Given, given_data, binder_meaning, Gives, IsOnly, IsUnknown}
+use Rattle.grind_resolution.specs.Scopes.{ScopeData, binder_names, AreDistinct, AreApart, Given, given_data, binder_meaning, Gives, IsOnly, IsUnknown}
 
 -- the name at the place of a binder, and of a function
 binder_name : (binders : List Constant) (c : ℕ) (k : Constant) → slice_get binders c ≡ Some k → slice_get (binder_names binders) c ≡ Some k.name
@@ -119,14 +118,3 @@ none_given s scope name p q given (inl (c, k, at, named, is)) =
     absent-position (binder_names scope.binders) name p (Contains-slice_get (binder_names scope.binders) name c (binder_name scope.binders c k at ∙ ap Some named))
 none_given s scope name p q given (inr (c, k, at, named, is)) =
     absent-position (function_names s.functions) name q (Contains-slice_get (function_names s.functions) name c (function_name s.functions c k at ∙ ap Some named))
-
--- a binder whose name is not held leaves the binders apart from the signature
-pub apart_push : (s : SignatureData) (scope next : ScopeData) (b : Constant) → AreApart s scope → ¬ IsHeld s b.name
-    → next ≡ scope_data scope.kind (scope.binders ++ b ∷ []) → AreApart s next
-apart_push s scope next b apart new is name has =
-    let all = subst (λ (x : ScopeData). Contains (binder_names x.binders) name) is has in
-    let pushed = subst (λ names. Contains names name) (map-append (λ (k : Constant). k.name) scope.binders (b ∷ [])) all in
-    elim (Contains-push_cases (binder_names scope.binders) b.name name pushed) [
-      | inl c ↦ apart name c
-      | inr e ↦ λ held. new (subst (IsHeld s) (sym e) held)
-    ]

@@ -1,3 +1,4 @@
+pub mod Contexts
 pub mod DeclaredSchemes
 pub mod Laws
 pub mod Resolved

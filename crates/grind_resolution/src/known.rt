@@ -1,21 +1,20 @@
 //! Whether each name of a term stands for something.
 ghost use Rattle.std.specs.Prelude.{◌↔◌, All, IsTrue};
 ghost use Rattle.grind_grammar.specs.Keeps.{IsPlaced, IsPlacedTree, name_of, term_of};
-ghost use Rattle.grind_resolution.specs.Scopes.{Given, AreApart, Gives};
+ghost use Rattle.grind_resolution.specs.Scopes.{Given};
+ghost use Rattle.grind_resolution.specs.Contexts.{gives_in};
 ghost use Rattle.grind_resolution.specs.Sorting.{Known};
 
+use crate::context::Context;
 use crate::found::name_at;
-use crate::scope::Scope;
 use grind_grammar::{Name, Tree};
-use grind_signature::signature::Signature;
 
 // Whether a name stands for something.
-fn is_given(text: &[u8], signature: &Signature, scope: &Scope, name: Name) -> bool
-    requires placed { IsPlaced text.now name }
-    requires apart { AreApart signature.now scope.now }
-    ensures { IsTrue result ↔ ((given : Given) × Gives signature.now scope.now (name_of text.now name) given) }
+fn is_given(context: &Context<'_>, name: Name) -> bool
+    requires { IsPlaced context.now.text.now name }
+    ensures { IsTrue result ↔ ((given : Given) × gives_in context.now (name_of context.now.text.now name) given) }
 {
-    match name_at(text, signature, scope, name) {
+    match name_at(context, name) {
         Some(_) => true,
         None => false,
     }
@@ -23,40 +22,38 @@ fn is_given(text: &[u8], signature: &Signature, scope: &Scope, name: Name) -> bo
 
 /// Whether each name of a term stands for something. The recursion is as deep as the term.
 #[cycle(known)]
-pub fn is_known(text: &[u8], signature: &Signature, scope: &Scope, tree: &Tree) -> bool
-    requires placed { IsPlacedTree text.now tree.now }
-    requires apart { AreApart signature.now scope.now }
-    ensures { IsTrue result ↔ Known (Gives signature.now scope.now) (term_of text.now tree.now) }
+pub fn is_known(context: &Context<'_>, tree: &Tree) -> bool
+    requires { IsPlacedTree context.now.text.now tree.now }
+    ensures { IsTrue result ↔ Known (gives_in context.now) (term_of context.now.text.now tree.now) }
 {
     match tree {
         Tree::True => true,
         Tree::False => true,
         Tree::Number(_) => true,
         Tree::Apply(name, parts) => {
-            if !is_given(text, signature, scope, *name) {
+            if !is_given(context, *name) {
                 return false;
             }
-            are_known(text, signature, scope, parts)
+            are_known(context, parts)
         }
-        Tree::One(_, part) => is_known(text, signature, scope, part),
+        Tree::One(_, part) => is_known(context, part),
         Tree::Two(_, left, right) => {
-            if !is_known(text, signature, scope, left) {
+            if !is_known(context, left) {
                 return false;
             }
-            is_known(text, signature, scope, right)
+            is_known(context, right)
         }
     }
 }
 
 // Whether each name of the parts stands for something.
 #[cycle(known)]
-fn are_known(text: &[u8], signature: &Signature, scope: &Scope, parts: &[Tree]) -> bool
-    requires placed { All (IsPlacedTree text.now) parts.now }
-    requires apart { AreApart signature.now scope.now }
-    ensures { IsTrue result ↔ All (λ tree. Known (Gives signature.now scope.now) (term_of text.now tree)) parts.now }
+fn are_known(context: &Context<'_>, parts: &[Tree]) -> bool
+    requires { All (IsPlacedTree context.now.text.now) parts.now }
+    ensures { IsTrue result ↔ All (λ tree. Known (gives_in context.now) (term_of context.now.text.now tree)) parts.now }
 {
     for part in parts {
-        if !is_known(text, signature, scope, part) {
+        if !is_known(context, part) {
             return false;
         }
     }

@@ -1,22 +1,22 @@
-//! What follows from the definitions of this crate. Each law is a call without a body: who makes the call knows the law.
+//! What follows from the definitions of this crate. Each law is the contract of a function with an empty body.
 ghost use Rattle.grind_resolution.specs.Laws.{OneMeaning, SortedIsCounted, OneSort, OneScheme, SchemesAreFormed, SchemesAreDeclared};
 
-/// Under binders of names of their own, which the signature does not hold, a name stands for one thing at most.
+/// A name stands for at most one thing, if the binders have different names that the signature does not hold.
 pub fn one_meaning()
     ensures { OneMeaning }
 {}
 
-/// What has a sort is known and counted.
+/// A term that has a sort is known and counted.
 pub fn sorted_is_counted()
     ensures { SortedIsCounted }
 {}
 
-/// A term has one sort at most.
+/// A term has at most one sort.
 pub fn one_sort()
     ensures { OneSort }
 {}
 
-/// A term stands for one scheme at most, up to the room that lists of arguments have.
+/// A term stands for at most one scheme, up to the capacity of lists of arguments.
 pub fn one_scheme()
     ensures { OneScheme }
 {}

@@ -1,7 +1,7 @@
 //! What the formulas of a theory file stand for: their names, sorts and schemes.
 #![tactic(auto)]
 
-pub mod binding;
+pub mod context;
 pub mod counted;
 pub mod found;
 pub mod known;
@@ -13,12 +13,12 @@ pub mod scope;
 pub mod sizes;
 pub mod sorts;
 
-pub use binding::{BindRefusal, bind};
+pub use context::Context;
 pub use counted::is_counted;
-pub use found::{Found, find_name};
+pub use found::{Found, bytes_of, name_at};
 pub use known::is_known;
 pub use meaning::{BinderKind, Meaning};
 pub use resolver::resolve;
 pub use scope::Scope;
-pub use sizes::size_of;
+pub use sizes::{size_of, sum_within};
 pub use sorts::sort_of;

@@ -1,4 +1,4 @@
-//! Schemes from their parts, with what is written in a formula put as the heads that schemes have.
+//! Schemes from their parts: the operators of formulas are expressed by the heads that schemes have.
 ghost use Rattle.std.specs.Prelude.{◌≡◌, ℕ, [], ◌∷◌, IfOk};
 ghost use Rattle.grind_resolution.specs.Resolved.{IsMade, IsMeant, IsNegation, IsOrder, IsEquation, IsOpposite, IsUnary, IsBinary};
 
@@ -9,7 +9,7 @@ use grind_schemes::Scheme;
 use grind_term_graph::{Head, SortId};
 use std::alloc::Global;
 
-/// A head without parts. It takes no memory.
+/// A head without parts, made without allocating.
 pub(crate) fn leaf(alloc: Global, head: Head, sort: SortId) -> Scheme
     ensures { IsMade head sort [] result }
 {
@@ -81,7 +81,7 @@ fn equation(alloc: Global, left: Scheme, right: Scheme) -> Result<Scheme, Memory
     at_two(alloc, Head::Eq, SortId::PROP, left, right)
 }
 
-// A whole number with its sign turned.
+// The negation of a whole number.
 fn opposite(alloc: Global, part: Scheme) -> Result<Scheme, Memory>
     ensures { IfOk result (IsOpposite part) }
 {

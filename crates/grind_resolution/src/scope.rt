@@ -7,13 +7,13 @@ ghost use Rattle.grind_resolution.specs.Scopes.{scope_data, binder_names, binder
 use crate::meaning::{BinderKind, Meaning};
 use grind_outside::{List, Memory};
 use grind_schemes::Constant;
-use grind_signature::name_table::NameTable;
+use grind_signature::NameTable;
 use grind_term_graph::{Head, SortId};
 use std::alloc::Global;
 use std::marker::Model;
 
-/// The binders of a declaration in order, no two of one name: the constants of a goal or the variables of a
-/// theorem. Contracts see their kind and the list of them. A binder is found in one look-up.
+/// The binders of a declaration in order, with different names: the constants of a goal or the variables of a
+/// theorem. Contracts see their kind and a list. A binder is found in one look-up.
 #[derive(Drop)]
 pub struct Scope {
     kind: BinderKind,
@@ -33,7 +33,7 @@ impl Model for Scope {
 }
 
 impl Scope {
-    /// No binders. It takes no memory.
+    /// An empty scope, made without allocating.
     pub fn new(alloc: Global, kind: BinderKind) -> Scope
         ensures { result ≡ scope_data kind [] }
     {
@@ -44,7 +44,7 @@ impl Scope {
         }
     }
 
-    /// How many binders there are. Whoever asks learns that their names differ.
+    /// How many binders there are. The contract also says that their names differ.
     pub fn len(&self) -> u32
         ensures value { result ≡ length self.now.binders }
         ensures distinct { AreDistinct self.now }
@@ -52,7 +52,7 @@ impl Scope {
         self.names.len()
     }
 
-    /// The number of the binder of that name, or None exactly where there is none.
+    /// The number of the binder with that name, or None if there is none.
     pub fn find(&self, name: &[u8]) -> Option<u32>
         ensures { result ≡ position (bytes_eq name.now) (binder_names self.now.binders) }
     {
@@ -66,7 +66,7 @@ impl Scope {
         self.names.contains(name)
     }
 
-    /// The sort of the binder of that number.
+    /// The sort of the binder with that number.
     pub fn sort(&self, number: u32) -> SortId
         requires { number < length self.now.binders }
         ensures { (b : K) → slice_get self.now.binders number ≡ Some b → result ≡ b.sort }
@@ -74,7 +74,7 @@ impl Scope {
         self.items.as_slice()[number as usize].sort
     }
 
-    /// What the name of the binder of that number stands for.
+    /// What the name of the binder with that number stands for.
     pub fn meaning(&self, number: u32) -> Meaning
         ensures { result ≡ binder_meaning self.now.kind number }
     {
@@ -84,7 +84,7 @@ impl Scope {
         }
     }
 
-    /// Puts a binder of a new name last. After want of memory the binders are unchanged.
+    /// Appends a binder with a new name. Out of memory, the binders are unchanged.
     pub fn push(&mut self, alloc: Global, name: &[u8], sort: SortId) -> Result<(), Memory>
         requires { ¬ Contains (binder_names self.old.binders) name.now }
         ensures ok { OnOk result (self.new ≡ scope_data self.old.kind (self.old.binders ++ record { name = name.now; sort = sort } ∷ [])) }

@@ -6,8 +6,8 @@ ghost use Rattle.grind_resolution.specs.Rows.{row_of_trees};
 
 use grind_grammar::Tree;
 
-// The sum of two counts, or the limit where that is less.
-fn sum_within(left: u32, right: u32, limit: u32) -> u32
+/// The sum of two counts, at most the limit.
+pub fn sum_within(left: u32, right: u32, limit: u32) -> u32
     requires { left ≤ limit }
     ensures value { result ≡ min (left + right) limit }
     ensures within { result ≤ limit }
@@ -18,7 +18,7 @@ fn sum_within(left: u32, right: u32, limit: u32) -> u32
     left + right
 }
 
-/// How many nodes a term has as it is written, or the limit where that is less. The recursion is as deep as the
+/// How many nodes a term has as it is written, at most the limit. The recursion is as deep as the
 /// term.
 #[cycle(sizes)]
 pub fn size_of(tree: &Tree, limit: u32) -> u32
@@ -46,7 +46,7 @@ pub fn size_of(tree: &Tree, limit: u32) -> u32
     }
 }
 
-// How many nodes the parts have, or the limit where that is less.
+// How many nodes the parts have, at most the limit.
 #[cycle(sizes)]
 fn size_of_all(parts: &[Tree], limit: u32) -> u32
     ensures value { (text : List ℕ) → result ≡ min (row_size (row_of_trees text parts.now)) limit }

@@ -1,17 +1,16 @@
 //! The sort of a term.
 ghost use Rattle.std.specs.Prelude.{◌≡◌, ◌↔◌, ℕ, All, Some, IsTrue};
 ghost use Rattle.grind_grammar.specs.Keeps.{IsPlacedTree, term_of};
-ghost use Rattle.grind_resolution.specs.Scopes.{AreApart, Gives};
+ghost use Rattle.grind_resolution.specs.Contexts.{gives_in};
 ghost use Rattle.grind_resolution.specs.Sorting.{HasSort, TakesSides, unary_sort, binary_sort};
 ghost use Rattle.grind_resolution.specs.Rows.{EachHasSort};
 
+use crate::context::Context;
 use crate::found::name_at;
-use crate::scope::Scope;
 use grind_grammar::{Binary, Tree, Unary};
-use grind_signature::signature::Signature;
 use grind_term_graph::SortId;
 
-// Whether a sort was found, and it is this one.
+// Whether the sort that was found is this one.
 fn is_sort(found: Option<SortId>, sort: SortId) -> bool
     ensures { IsTrue result ↔ (found ≡ Some sort) }
 {
@@ -80,33 +79,32 @@ fn binary_of(op: Binary, left: Option<SortId>, right: Option<SortId>) -> Option<
     Some(sort_of_binary(op))
 }
 
-/// The sort of a term, or None exactly where it has none. The recursion is as deep as the term.
+/// The sort of a term, or None if it has none. The recursion is as deep as the term.
 #[cycle(sorts)]
-pub fn sort_of(text: &[u8], signature: &Signature, scope: &Scope, tree: &Tree) -> Option<SortId>
-    requires placed { IsPlacedTree text.now tree.now }
-    requires apart { AreApart signature.now scope.now }
-    ensures { (sort : ℕ) → HasSort (Gives signature.now scope.now) (term_of text.now tree.now) sort ↔ (result ≡ Some sort) }
+pub fn sort_of(context: &Context<'_>, tree: &Tree) -> Option<SortId>
+    requires { IsPlacedTree context.now.text.now tree.now }
+    ensures { (sort : ℕ) → HasSort (gives_in context.now) (term_of context.now.text.now tree.now) sort ↔ (result ≡ Some sort) }
 {
     match tree {
         Tree::True => Some(SortId::PROP),
         Tree::False => Some(SortId::PROP),
         Tree::Number(_) => Some(SortId::INT),
         Tree::Apply(name, parts) => {
-            let Some(found) = name_at(text, signature, scope, *name) else {
+            let Some(found) = name_at(context, *name) else {
                 return None;
             };
-            if !have_sorts(text, signature, scope, parts, found.args) {
+            if !have_sorts(context, parts, found.args) {
                 return None;
             }
             Some(found.sort)
         }
         Tree::One(op, part) => {
-            let part = sort_of(text, signature, scope, part);
+            let part = sort_of(context, part);
             unary_of(*op, part)
         }
         Tree::Two(op, left, right) => {
-            let left = sort_of(text, signature, scope, left);
-            let right = sort_of(text, signature, scope, right);
+            let left = sort_of(context, left);
+            let right = sort_of(context, right);
             binary_of(*op, left, right)
         }
     }
@@ -114,22 +112,15 @@ pub fn sort_of(text: &[u8], signature: &Signature, scope: &Scope, tree: &Tree) -
 
 // Whether the parts have these sorts, one each.
 #[cycle(sorts)]
-fn have_sorts(
-    text: &[u8],
-    signature: &Signature,
-    scope: &Scope,
-    parts: &[Tree],
-    sorts: &[SortId],
-) -> bool
-    requires placed { All (IsPlacedTree text.now) parts.now }
-    requires apart { AreApart signature.now scope.now }
-    ensures { IsTrue result ↔ EachHasSort (Gives signature.now scope.now) text.now parts.now sorts.now }
+fn have_sorts(context: &Context<'_>, parts: &[Tree], sorts: &[SortId]) -> bool
+    requires { All (IsPlacedTree context.now.text.now) parts.now }
+    ensures { IsTrue result ↔ EachHasSort (gives_in context.now) context.now.text.now parts.now sorts.now }
 {
     if parts.len() != sorts.len() {
         return false;
     }
     for (place, part) in parts.iter().enumerate() {
-        let found = sort_of(text, signature, scope, part);
+        let found = sort_of(context, part);
         if !is_sort(found, sorts[place]) {
             return false;
         }

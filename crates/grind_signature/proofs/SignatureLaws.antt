@@ -8,7 +8,7 @@ use Rattle.std.proofs.lemmas.List.Quantifiers.{all_pairs_push}
 use Rattle.grind_schemes.specs.Labels.{IsLabel}
 use Rattle.grind_signature.specs.Signatures.{Function, SignatureData, function_names, IsHeld, signature_data, with_sort, with_function, with_label, IsFunctionOver, IsSignature}
 
-differ_push : (names : List (List ℕ)) (name : List ℕ) → AllPairs (λ a b. a ≢ b) names → ¬ Contains names name → AllPairs (λ a b. a ≢ b) (names ++ name ∷ [])
+pub differ_push : (names : List (List ℕ)) (name : List ℕ) → AllPairs (λ a b. a ≢ b) names → ¬ Contains names name → AllPairs (λ a b. a ≢ b) (names ++ name ∷ [])
 differ_push names name h new =
     all_pairs_push (λ a b. a ≢ b) names name h (λ k d l e. new (subst (Contains names) e (Contains-get_or names k d l)))
 

@@ -19,7 +19,7 @@ pub struct Arity {
     pub result: SortId,
 }
 
-/// Functions in order, no two of one name. Contracts see the list of them.
+/// Functions in order, with different names. Contracts see them as a list.
 #[derive(Drop)]
 pub struct FunTable {
     names: NameTable,
@@ -38,8 +38,17 @@ impl Model for FunTable {
     ghost invariant = { λ a. length a.names ≡ length a.arities };
 }
 
+// The list of these sorts.
+fn listed(alloc: Global, sorts: &[SortId]) -> Result<List<SortId>, Memory>
+    ensures { IfOk result (λ list. list ≡ sorts.now) }
+{
+    let mut list = List::new(alloc);
+    list.extend(sorts)?;
+    Ok(list)
+}
+
 impl FunTable {
-    /// No functions. It takes no memory.
+    /// An empty table, made without allocating.
     pub fn new(alloc: Global) -> FunTable
         ensures { result ≡ [] }
     {
@@ -49,7 +58,7 @@ impl FunTable {
         }
     }
 
-    /// The number of the function of that name, or None exactly where there is none.
+    /// The number of the function with that name, or None if there is none.
     pub fn find(&self, name: &[u8]) -> Option<u32>
         ensures value { result ≡ position (bytes_eq name.now) (function_names self.now) }
         ensures differ { AllPairs (λ a b. a ≢ b) (function_names self.now) }
@@ -58,23 +67,32 @@ impl FunTable {
         self.names.find(name)
     }
 
-    /// Whether there is a function of that name.
+    /// Whether there is a function with that name.
     pub fn contains(&self, name: &[u8]) -> bool
         ensures { IsTrue result ↔ Contains (function_names self.now) name.now }
     {
         self.names.contains(name)
     }
 
-    /// Puts a function of a new name last, and gives its number. After want of memory the functions are
-    /// unchanged.
-    pub fn add(&mut self, alloc: Global, name: &[u8], arity: Arity) -> Result<u32, Memory>
+    /// Appends a function with a new name and returns its number. Out of memory, the functions are unchanged.
+    pub fn add(
+        &mut self,
+        alloc: Global,
+        name: &[u8],
+        args: &[SortId],
+        own: SortId,
+    ) -> Result<u32, Memory>
         requires { ¬ Contains (function_names self.old) name.now }
-        ensures ok { OnOk result (self.new ≡ self.old ++ record { name = name.now; args = arity.args; result = arity.result } ∷ []) }
+        ensures ok { OnOk result (self.new ≡ self.old ++ record { name = name.now; args = args.now; result = own } ∷ []) }
         ensures number { IfOk result (λ number. number ≡ length self.old) }
         ensures err { OnErr result (self.new ≡ self.old) }
     {
+        let list = listed(alloc, args)?;
         let before = self.arities.len();
-        self.arities.push(arity)?;
+        self.arities.push(Arity {
+            args: list,
+            result: own,
+        })?;
         match self.names.add(alloc, name) {
             Ok(number) => Ok(number),
             Err(_) => {
@@ -84,7 +102,7 @@ impl FunTable {
         }
     }
 
-    /// The name of the function of that number.
+    /// The name of the function with that number.
     pub fn name(&self, number: u32) -> &[u8]
         requires { number < length self.now }
         ensures { (f : Function) → slice_get self.now number ≡ Some f → result.now ≡ f.name }
@@ -92,7 +110,7 @@ impl FunTable {
         self.names.name(number)
     }
 
-    /// The sorts of the function of that number.
+    /// The sorts of the function with that number.
     pub fn arity(&self, number: u32) -> &Arity
         requires { number < length self.now }
         ensures { (f : Function) → slice_get self.now number ≡ Some f → (result.now.args ≡ f.args) × (result.now.result ≡ f.result) }

@@ -4,3 +4,7 @@
 pub mod fun_table;
 pub mod name_table;
 pub mod signature;
+
+pub use fun_table::{Arity, FunTable};
+pub use name_table::NameTable;
+pub use signature::{Signature, SignatureRefusal};

@@ -1,4 +1,4 @@
-//! Names, each of them once, numbered in the order in which they came.
+//! Distinct names, numbered in the order in which they were added.
 ghost use Rattle.std.specs.Prelude.{◌≡◌, ◌≢◌, ◌<◌, ◌^◌, [], ◌∷◌, ◌++◌, length, slice_get, position, None, Some, Contains, IfOk, OnOk, OnErr, IsTrue, ◌↔◌};
 ghost use Rattle.std.specs.List.{AllPairs};
 ghost use Rattle.std.specs.Str.{bytes_eq};
@@ -8,8 +8,7 @@ use indexmap::IndexSet;
 use std::alloc::Global;
 use std::marker::Model;
 
-/// Names in order, no two the same, and fewer than 2^32 of them. Contracts see the list of the names. A
-/// name is found in one look-up.
+/// Distinct names in order, fewer than 2^32 of them. Contracts see them as a list. A name is found in one look-up.
 #[derive(Drop)]
 pub struct NameTable {
     names: IndexSet<Vec<u8>>,
@@ -26,7 +25,7 @@ impl Model for NameTable {
 }
 
 impl NameTable {
-    /// No names. It takes no memory.
+    /// An empty table, made without allocating.
     pub fn new(alloc: Global) -> NameTable
         ensures { result ≡ [] }
     {
@@ -43,7 +42,7 @@ impl NameTable {
         self.names.len() as u32
     }
 
-    /// The number of a name, or None exactly where it is absent.
+    /// The number of a name, or None if it is absent.
     pub fn find(&self, name: &[u8]) -> Option<u32>
         ensures { result ≡ position (bytes_eq name.now) self.now }
     {
@@ -53,15 +52,15 @@ impl NameTable {
         }
     }
 
-    /// Whether the name is there.
+    /// Whether the name is in the table.
     pub fn contains(&self, name: &[u8]) -> bool
         ensures { IsTrue result ↔ Contains self.now name.now }
     {
         self.names.contains(name)
     }
 
-    /// Puts a new name last, and gives its number. After want of memory the names are unchanged. A table of
-    /// 2^32 - 1 names has no room.
+    /// Appends a new name and returns its number. Out of memory, the names are unchanged. A table of
+    /// 2^32 - 1 names is full.
     pub fn add(&mut self, alloc: Global, name: &[u8]) -> Result<u32, Memory>
         requires { ¬ Contains self.old name.now }
         ensures ok { OnOk result (self.new ≡ self.old ++ name.now ∷ []) }
@@ -81,7 +80,7 @@ impl NameTable {
         }
     }
 
-    /// The name of a number.
+    /// The name with that number.
     pub fn name(&self, number: u32) -> &[u8]
         requires { number < length self.now }
         ensures { slice_get self.now number ≡ Some result.now }

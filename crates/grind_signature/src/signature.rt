@@ -4,9 +4,9 @@ ghost use Rattle.std.specs.Str.{bytes_eq};
 ghost use Rattle.grind_schemes.specs.Labels.{IsLabel};
 ghost use Rattle.grind_signature.specs.Signatures.{Function, opening, function_names, IsHeld, with_sort, with_function, with_label, IsSignature};
 
-use crate::fun_table::{Arity, FunTable};
+use crate::fun_table::FunTable;
 use crate::name_table::NameTable;
-use grind_outside::{List, Memory};
+use grind_outside::Memory;
 use grind_term_graph::{FunId, SortId};
 use std::alloc::Global;
 use std::marker::Model;
@@ -14,9 +14,9 @@ use std::marker::Model;
 /// Why a name was not declared.
 #[derive(Clone, Copy, Debug, PartialEq, Eq)]
 pub enum SignatureRefusal {
-    /// The name is that of a sort, a function or a label already.
+    /// The name already belongs to a sort, a function or a label.
     Duplicate,
-    /// Memory was wanted, and there was none.
+    /// Out of memory.
     Memory,
 }
 
@@ -40,7 +40,7 @@ impl Model for Signature {
 }
 
 impl Signature {
-    /// The sorts `Prop` and `Int`, and nothing else.
+    /// The signature with the sorts `Prop` and `Int` alone.
     pub fn new(alloc: Global) -> Result<Signature, Memory>
         ensures { IfOk result (λ signature. signature ≡ opening) }
     {
@@ -54,7 +54,7 @@ impl Signature {
         })
     }
 
-    /// How many sorts there are. Whoever asks learns what every signature keeps.
+    /// How many sorts there are. The contract also says what holds of every signature.
     pub fn sort_count(&self) -> u32
         ensures value { result ≡ length self.now.sorts }
         ensures keeps { IsSignature self.now }
@@ -70,7 +70,7 @@ impl Signature {
         self.sorts.contains(name) || self.functions.contains(name) || self.labels.contains(name)
     }
 
-    /// Declares a sort, and gives its number. After a refusal the signature is unchanged.
+    /// Declares a sort and returns its number. After a refusal the signature is unchanged.
     ///
     /// # Errors
     ///
@@ -92,7 +92,7 @@ impl Signature {
         }
     }
 
-    /// Declares a function, and gives its number. After a refusal the signature is unchanged.
+    /// Declares a function and returns its number. After a refusal the signature is unchanged.
     ///
     /// # Errors
     ///
@@ -101,14 +101,14 @@ impl Signature {
         &mut self,
         alloc: Global,
         name: &[u8],
-        args: List<SortId>,
+        args: &[SortId],
         own: SortId,
     ) -> Result<FunId, SignatureRefusal>
         requires label { IsLabel name.now }
-        requires args { All (λ sort. sort < length self.old.sorts) args }
-        requires few { length args ≤ 16 }
+        requires args { All (λ sort. sort < length self.old.sorts) args.now }
+        requires few { length args.now ≤ 16 }
         requires own { own < length self.old.sorts }
-        ensures ok { OnOk result (self.new ≡ with_function self.old (record { name = name.now; args = args; result = own })) }
+        ensures ok { OnOk result (self.new ≡ with_function self.old (record { name = name.now; args = args.now; result = own })) }
         ensures number { IfOk result (λ function. function ≡ length self.old.functions) }
         ensures new { OnOk result (¬ IsHeld self.old name.now) }
         ensures duplicate { IfErr result (λ refusal. refusal ≡ SignatureRefusal.Duplicate ↔ IsHeld self.old name.now) }
@@ -117,7 +117,7 @@ impl Signature {
         if self.holds(name) {
             return Err(SignatureRefusal::Duplicate);
         }
-        match self.functions.add(alloc, name, Arity { args, result: own }) {
+        match self.functions.add(alloc, name, args, own) {
             Ok(number) => Ok(FunId::new(number)),
             Err(_) => Err(SignatureRefusal::Memory),
         }
@@ -144,7 +144,7 @@ impl Signature {
         }
     }
 
-    /// The number of a sort, or None exactly where no sort has the name.
+    /// The number of a sort, or None if no sort has the name.
     pub fn find_sort(&self, name: &[u8]) -> Option<SortId>
         ensures { result ≡ position (bytes_eq name.now) self.now.sorts }
     {
@@ -154,7 +154,7 @@ impl Signature {
         }
     }
 
-    /// The number of a function, or None exactly where no function has the name.
+    /// The number of a function, or None if no function has the name.
     pub fn find_fun(&self, name: &[u8]) -> Option<FunId>
         ensures { result ≡ position (bytes_eq name.now) (function_names self.now.functions) }
     {

@@ -1,9 +1,8 @@
 //! Names that are declared one by one.
-ghost use Rattle.std.specs.Prelude.{◌≡◌, [], ◌∷◌, IfOk, IsTrue};
+ghost use Rattle.std.specs.Prelude.{IsTrue};
 ghost use Rattle.grind_schemes.specs.Labels.{IsLabel};
 
-use grind_outside::{List, Memory};
-use grind_signature::signature::{Signature, SignatureRefusal};
+use grind_signature::{Signature, SignatureRefusal};
 use grind_term_graph::SortId;
 use std::alloc::Global;
 use std::test::Fail;
@@ -45,25 +44,13 @@ fn sort(alloc: Global, signature: &mut Signature, name: &[u8]) -> Answer {
     }
 }
 
-/// The list of this sort alone.
-fn alone(alloc: Global, sort: SortId) -> Result<List<SortId>, Memory>
-    ensures { IfOk result (λ sorts. sorts ≡ sort ∷ []) }
-{
-    let mut sorts = List::new(alloc);
-    sorts.push(sort)?;
-    Ok(sorts)
-}
-
 /// Declares a function of one argument, of the sort that it answers.
 fn function(alloc: Global, signature: &mut Signature, name: &[u8], number: u32) -> Answer {
     if !is_label(name) || number >= signature.sort_count() {
         return Answer::Wanted;
     }
     let own = SortId::new(number);
-    let Ok(args) = alone(alloc, own) else {
-        return Answer::Wanted;
-    };
-    match signature.declare_fun(alloc, name, args, own) {
+    match signature.declare_fun(alloc, name, &[own], own) {
         Ok(function) => Answer::Taken(function.number()),
         Err(refusal) => refused(refusal),
     }

@@ -1,15 +1,16 @@
 -- Binders that are read one after another.
-use Rattle.std.specs.Prelude.{◌≡◌, ℕ, List, [], ◌∷◌, ◌++◌, Contains, position, Some, None, refl}
-use Rattle.std.specs.List.{AllByRecursion}
+use Rattle.std.specs.Prelude.{◌≡◌, ◌≢◌, ℕ, List, [], ◌∷◌, ◌++◌, Contains, position, Some, None, refl}
+use Rattle.std.specs.List.{AllByRecursion, AllPairs}
 use Rattle.std.specs.Str.{bytes_eq}
 use Rattle.std.proofs.lemmas.List.Elements.{All-from_recursion, All-contains}
 use Rattle.grind_resolution.specs.declared.meaning.BinderKind.{BinderKind}
-use Rattle.std.proofs.Common.{sym, ap, subst, ◌∙◌, append_assoc}
+use Rattle.std.proofs.Common.{arith, sym, ap, subst, ◌∙◌, append_assoc}
 use Rattle.std.proofs.lemmas.List.{append-nil, map-append}
 use Rattle.grind_schemes.specs.declared.goal.Constant.{Constant}
 use Rattle.grind_grammar.specs.Terms.{Bound}
 use Rattle.grind_signature.specs.Signatures.{SignatureData, IsHeld}
-use Rattle.grind_resolution.specs.Scopes.{binder_names, AreApart}
+use Rattle.grind_signature.proofs.SignatureLaws.{differ_push}
+use Rattle.grind_resolution.specs.Scopes.{binder_names, AreDistinct, AreApart}
 use Rattle.grind_theory.specs.States.{bound_names, bound_sorts, constant_of, constants_of, scope_of}
 use Rattle.grind_theory.specs.Faults.{AreNewAfter, AreSorts}
 use Rattle.grind_theory.proofs.SortLists.{found_number, found_sort, no_sort}
@@ -90,6 +91,18 @@ names_same s (b ∷ bounds) = ap (λ names. b.name ∷ names) (names_same s boun
 fresh_all : (s : SignatureData) (names before : List (List ℕ)) → AreNewAfter s before names → AllByRecursion (λ name. ¬ IsHeld s name) names
 fresh_all s [] before h = tt
 fresh_all s (name ∷ names) before h = (h.0, fresh_all s names (before ++ name ∷ []) h.2)
+
+-- no two of them are the same
+distinct_after : (s : SignatureData) (names before : List (List ℕ)) → AllPairs (λ a b. a ≢ b) before → AreNewAfter s before names
+    → AllPairs (λ a b. a ≢ b) (before ++ names)
+distinct_after s [] before h new = subst (AllPairs (λ a b. a ≢ b)) (sym (append-nil before)) h
+distinct_after s (name ∷ names) before h new =
+    subst (AllPairs (λ a b. a ≢ b)) (append_assoc before (name ∷ []) names)
+    (distinct_after s names (before ++ name ∷ []) (differ_push before name h new.1) new.2)
+
+pub fresh-distinct : (kind : BinderKind) (s : SignatureData) (bounds : List Bound) → AreNewAfter s [] (bound_names bounds) → AreDistinct (scope_of kind s bounds)
+fresh-distinct kind s bounds h =
+    subst (AllPairs (λ a b. a ≢ b)) (sym (names_same s bounds)) (distinct_after s (bound_names bounds) [] (λ i j d e l m. absurd (omega arith)) h)
 
 -- the signature holds none of them
 pub fresh-apart : (kind : BinderKind) (s : SignatureData) (bounds : List Bound) → AreNewAfter s [] (bound_names bounds) → AreApart s (scope_of kind s bounds)

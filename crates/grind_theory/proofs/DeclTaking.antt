@@ -32,22 +32,15 @@ module _ (text : List ℕ) (k : Decl) (d : Declaration) (b : Building) (e : decl
   added_declared (Ok v) t h all = takes-declared (state_at b) d (state_data t b.theorems (limits_data b.limits) b.set b.goals) (h b.theorems (limits_data b.limits) b.set b.goals) all
   added_declared (Err x) t h all = tt
 
-  -- a theorem is added
-  pub theorem_ok : {V E : Type 0} (r : Result V E) (t : SignatureData) (more : List TheoremData) → OnOk r (IsTheoremTaken b.signature b.theorems d t more)
-      → OnOk r (Takes (state_at b) (declaration_of text k) (state_data t more (limits_data b.limits) b.set b.goals))
-  theorem_ok (Ok v) t more h = subst (λ x. Takes (state_at b) x (state_data t more (limits_data b.limits) b.set b.goals)) (sym e) (h (limits_data b.limits) b.set b.goals)
-  theorem_ok (Err x) t more h = tt
+  -- the declaration is taken
+  pub taken_as : {V E : Type 0} (r : Result V E) (after : Building) → OnOk r (Takes (state_at b) d (state_at after))
+      → OnOk r (Takes (state_at b) (declaration_of text k) (state_at after))
+  taken_as (Ok v) after h = subst (λ x. Takes (state_at b) x (state_at after)) (sym e) h
+  taken_as (Err x) after h = tt
 
-  pub theorem_declared : {V E : Type 0} (r : Result V E) (t : SignatureData) (more : List TheoremData) → OnOk r (IsTheoremTaken b.signature b.theorems d t more)
-      → AreDeclared b.signature b.goals → OnOk r (AreDeclared t b.goals)
-  theorem_declared (Ok v) t more h all = takes-declared (state_at b) d (state_data t more (limits_data b.limits) b.set b.goals) (h (limits_data b.limits) b.set b.goals) all
-  theorem_declared (Err x) t more h all = tt
-
-  -- a goal is added
-  pub goal_ok : {V E : Type 0} (r : Result V E) (t : SignatureData) (more : List GoalData) → OnOk r (IsGoalTaken b.signature b.goals d t more)
-      → OnOk r (Takes (state_at b) (declaration_of text k) (state_data t b.theorems (limits_data b.limits) b.set more))
-  goal_ok (Ok v) t more h = subst (λ x. Takes (state_at b) x (state_data t b.theorems (limits_data b.limits) b.set more)) (sym e) (h b.theorems (limits_data b.limits) b.set)
-  goal_ok (Err x) t more h = tt
+  -- and has its fault
+  pub fault_as : (fault : Fault) → FaultOf (state_at b) d fault → FaultOf (state_at b) (declaration_of text k) fault
+  fault_as fault h = subst (λ x. FaultOf (state_at b) x fault) (sym e) h
 
   -- a limit is set
   pub limit_ok : {V E : Type 0} (r : Result V E) (limits : Limits) (set : List LimitKind) → OnOk r (IsLimitAdded (limits_data b.limits) b.set d (limits_data limits) set)

@@ -6,7 +6,6 @@ use Rattle.std.proofs.lemmas.List.Elements.{All-cons, All-from_recursion, recurs
 use Rattle.std.proofs.lemmas.Option.{slice_get_within}
 use Rattle.grind_term_graph.specs.Terms.{prop}
 use Rattle.grind_grammar.specs.Terms.{Declaration, Fun}
-use Rattle.grind_grammar.specs.declared.syntax.Name.{Name}
 use Rattle.grind_signature.specs.Signatures.{SignatureData, IsHeld, with_function}
 use Rattle.grind_signature.proofs.NameLists.{slice_get-position, absent-position}
 use Rattle.grind_theory.specs.declared.theory.Fault.{Fault}
@@ -15,7 +14,6 @@ use Rattle.grind_theory.specs.declared.theory.DeclRefusal.{DeclRefusal}
 use Rattle.grind_theory.specs.declared.theory.DeclRefusal.TheVariants.{Faulty}
 use Rattle.grind_theory.specs.States.{state_data, sort_number, sort_numbers}
 use Rattle.grind_theory.specs.Faults.{AreSorts, AreNoFormulas}
-use Rattle.grind_theory.specs.Kept.{names_of}
 use Rattle.grind_theory.specs.Declaring.{HasFault, IsAdded}
 use Rattle.grind_theory.proofs.SortLists.{found_number, found_sort, no_sort}
 
@@ -80,7 +78,3 @@ module _ (s : SignatureData) (name result own bytes : List ℕ) (names : List (L
             adds = ap (λ x. state_data x theorems limits set goals)
                 (e ∙ (λ i. with_function s (record { name = is i; args = are i; result = number i })));
           }
-
-pub names-length : (text : List ℕ) (names : List Name) → length (names_of text names) ≡ length names
-names-length text [] = refl
-names-length text (n ∷ names) = let e = names-length text names in omega arith

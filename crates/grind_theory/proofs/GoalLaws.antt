@@ -22,7 +22,9 @@ use Rattle.grind_resolution.specs.Scopes.{ScopeData, scope_data, variable_sorts,
 use Rattle.grind_resolution.specs.Resolved.{StandsFor}
 use Rattle.grind_resolution.specs.Same.{AreSame}
 use Rattle.grind_resolution.specs.Laws.{IsSingle}
-use Rattle.grind_theory.specs.Faults.{IsFormulaTerm, StandForEach, interned_each, most_nodes}
+use Rattle.grind_annotations.specs.Asking.{IsFormulaTerm}
+use Rattle.grind_annotations.specs.Giving.{StandForEach}
+use Rattle.grind_theory.specs.Faults.{interned_each, most_nodes}
 use Rattle.grind_theory.specs.Declaring.{IsOver, ArePutAs, AreOver, AreGoalTerms, AreTooMany}
 use Rattle.grind_theory.proofs.Interning.{each-same}
 use Rattle.grind_theory.proofs.GoalNodes.{AreWell, IsPut, term-puts, all_alike, opening-well}

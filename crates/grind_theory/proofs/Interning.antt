@@ -13,7 +13,8 @@ use Rattle.grind_grammar.specs.Terms.{Term}
 use Rattle.grind_resolution.specs.Scopes.{Given}
 use Rattle.grind_resolution.specs.Resolved.{StandsFor}
 use Rattle.grind_resolution.specs.Same.{AreSame, AreSameRows}
-use Rattle.grind_theory.specs.Faults.{StandForEach, interned_each}
+use Rattle.grind_annotations.specs.Giving.{StandForEach}
+use Rattle.grind_theory.specs.Faults.{interned_each}
 
 -- nodes, and the numbers of some of them
 abbrev pub both : List Node → List ℕ → List Node × List ℕ

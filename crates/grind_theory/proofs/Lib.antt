@@ -9,8 +9,6 @@ mod Declared
 mod Underway
 mod DeclTaking
 mod LawLemmas
-mod SamePatterns
-mod AnnotationLaws
 mod TheoremTaking
 mod TheoremMaking
 mod TheoremNodes

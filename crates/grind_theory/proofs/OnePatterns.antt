@@ -11,8 +11,8 @@ use Rattle.grind_patterns.specs.declared.kind.Kind.{Kind}
 use Rattle.grind_patterns.specs.declared.kind.Kind.TheVariants as kinds
 use Rattle.grind_patterns.specs.Copies.{IsCopy, AreCopies, AreCopiesRow}
 use Rattle.grind_patterns.specs.Patterns.{TakesAt, Walks, WalksRow, WalksEach, hypotheses_of, conclusion_of, IsEquation, Chooses}
-use Rattle.grind_theory.specs.Faults.{StandForEach, Annotates, GivesPatterns, GivePatterns}
-use Rattle.grind_theory.proofs.SamePatterns.{same-copy, AreKindCopies, chooses-copy}
+use Rattle.grind_annotations.specs.Giving.{StandForEach, Annotates, GivesPatterns, GivePatterns}
+use Rattle.grind_annotations.proofs.SamePatterns.{same-copy, AreKindCopies, chooses-copy}
 
 -- at a pattern term a walk goes on in one way
 one_take : (before : List Scheme) (term : Scheme) (after other : List Scheme) → TakesAt before term after → TakesAt before term other → after ≡ other

@@ -11,9 +11,9 @@ use Rattle.grind_grammar.specs.Terms.{Term, Annotation}
 use Rattle.grind_resolution.specs.Scopes.{Given}
 use Rattle.grind_resolution.specs.Resolved.{StandsFor}
 use Rattle.grind_resolution.specs.Same.{AreSame}
-use Rattle.grind_theory.specs.Faults.{GivePatterns}
-use Rattle.grind_theory.specs.Kept.{annotation_of, annotations_of}
-use Rattle.grind_theory.specs.Annotating.{ListsOrNone}
+use Rattle.grind_annotations.specs.Giving.{GivePatterns}
+use Rattle.grind_annotations.specs.Written.{annotation_of, annotations_of}
+use Rattle.grind_annotations.specs.Annotating.{ListsOrNone}
 use Rattle.grind_theory.specs.Theorems.{IsAnnotated, IsSmallTheorem, HasPatterns, IsTheoremIn}
 
 -- there are as many annotations as the code keeps

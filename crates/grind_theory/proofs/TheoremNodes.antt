@@ -1,19 +1,10 @@
--- Sums of sizes up to a limit.
+-- When a theorem is small, by sums up to a limit.
 use Rattle.std.specs.Prelude.{◌≡◌, ◌↔◌, ℕ, ◌+◌, ◌≤◌, min, IsTrue, List, length}
 use Rattle.std.proofs.Common.{arith, leb, leb-true, le-leb}
 use Rattle.grind_grammar.specs.Terms.{Term, Annotation}
 use Rattle.grind_resolution.specs.Sizes.{size}
-use Rattle.grind_theory.specs.Faults.{written_sizes}
+use Rattle.grind_annotations.specs.Written.{written_sizes}
 use Rattle.grind_theory.specs.Theorems.{IsSmallTheorem}
-
--- one more is counted
-pub size-next : (first later total own next limit whole : ℕ) → own ≡ min first limit → next ≡ min (total + own) limit → min (total + (first + later)) limit ≡ whole
-    → min (next + later) limit ≡ whole
-size-next first later total own next limit whole e f h = omega arith
-
--- and none is left
-pub size-end : (total limit whole : ℕ) → total ≤ limit → min (total + 0) limit ≡ whole → total ≡ whole
-size-end total limit whole l h = omega arith
 
 -- the count up to 257 tells whether there are at most 256
 pub small-counted : (vars : List ℕ) (annotations : List Annotation) (body : Term) (own below whole : ℕ) → length vars ≤ 16

@@ -15,7 +15,8 @@ use Rattle.grind_theory.specs.declared.theory.Fault.{Fault}
 use Rattle.grind_theory.specs.States.{State, opening_state}
 use Rattle.grind_theory.specs.Faults.{FaultOf}
 use Rattle.grind_theory.specs.Theories.{Takes, TakesAll, RefusedAt, here, later}
-use Rattle.grind_theory.specs.Kept.{names_of, terms_of, bound_of, bounds_of, annotation_of, annotations_of, declaration_of, IsPlacedBinder, IsPlacedAnnot, IsPlacedDecl}
+use Rattle.grind_annotations.specs.Written.{terms_of, annotation_of, annotations_of, IsPlacedAnnot}
+use Rattle.grind_theory.specs.Kept.{names_of, bound_of, bounds_of, declaration_of, IsPlacedBinder, IsPlacedDecl}
 
 -- what keeps each item keeps what is read of it
 module _ {A B : Type 0} (keeps : A → B → Type 0) (read : A → B) (IsPlacedItem : A → Type 0)

@@ -1,21 +1,14 @@
--- What is asked of the terms that annotations write: for private contracts.
+-- The fault of the terms of a theorem: for private contracts.
 use Rattle.std.specs.Prelude.{◌≢◌, ℕ, List, Option, Some, None}
 use Rattle.std.specs.List.{AllByRecursion}
 use Rattle.grind_term_graph.specs.Terms.{prop}
 use Rattle.grind_grammar.specs.Terms.{Term, Annotation}
 use Rattle.grind_resolution.specs.Scopes.{Given}
 use Rattle.grind_resolution.specs.Sorting.{Known, Counted, IsSorted}
-use Rattle.grind_theory.specs.declared.patterns.Question.{Question}
-use Rattle.grind_theory.specs.declared.patterns.Question.TheVariants as questions
 use Rattle.grind_theory.specs.declared.theory.Fault.{Fault}
 use Rattle.grind_theory.specs.declared.theory.Fault.TheVariants as faults
-use Rattle.grind_theory.specs.Faults.{AllWritten, IsFormulaTerm}
-
--- the term is known, counted, or has a sort
-abbrev pub Answers : Question → (List ℕ → Given → Type 0) → Term → Type 0
-Answers questions.Known gives t = Known gives t
-Answers questions.Counted gives t = Counted gives t
-Answers questions.Sorted gives t = IsSorted gives t
+use Rattle.grind_annotations.specs.Asking.{IsFormulaTerm}
+use Rattle.grind_annotations.specs.Written.{AllWritten}
 
 -- the fault of a theorem's body and written patterns, by what names stand for, or none
 module _ (gives : List ℕ → Given → Type 0) (vars : List ℕ) (annotations : List Annotation) (body : Term) where

@@ -8,16 +8,18 @@ use Rattle.grind_schemes.specs.Instances.{interned}
 use Rattle.grind_schemes.specs.Goals.{GoalData}
 use Rattle.grind_schemes.specs.Theorems.{TheoremData}
 use Rattle.grind_grammar.specs.Terms.{Term, Bound, Declaration}
-use Rattle.grind_signature.specs.Signatures.{SignatureData, IsHeld}
+use Rattle.grind_signature.specs.Signatures.{SignatureData, IsHeld, IsSignature}
 use Rattle.grind_resolution.specs.declared.meaning.BinderKind.{BinderKind}
-use Rattle.grind_resolution.specs.Scopes.{ScopeData, Given, Gives, AreApart}
+use Rattle.grind_resolution.specs.Scopes.{ScopeData, Given, Gives, AreDistinct, AreApart}
 use Rattle.grind_resolution.specs.Sorting.{Known, Counted}
 use Rattle.grind_resolution.specs.Resolved.{StandsFor}
 use Rattle.grind_theory.specs.declared.limits.LimitKind.{LimitKind}
 use Rattle.grind_theory.specs.declared.theory.Fault.{Fault}
 use Rattle.grind_theory.specs.declared.theory.Fault.TheVariants as faults
 use Rattle.grind_theory.specs.States.{LimitsData, state_data, sort_numbers, bound_names, bound_sorts, scope_of}
-use Rattle.grind_theory.specs.Faults.{AreNewAfter, AreSorts, IsFormulaTerm, StandForEach, interned_each, most_nodes, FaultOf}
+use Rattle.grind_annotations.specs.Asking.{IsFormulaTerm}
+use Rattle.grind_annotations.specs.Giving.{StandForEach}
+use Rattle.grind_theory.specs.Faults.{AreNewAfter, AreSorts, interned_each, most_nodes, FaultOf}
 use Rattle.grind_theory.specs.Theories.{Takes}
 
 -- under the signature, the declaration has this fault whatever else is declared
@@ -121,6 +123,8 @@ pub record IsOpened (kind : BinderKind) (s : SignatureData) (name : List ℕ) (b
   pub fresh : ¬ IsHeld s name × AreNewAfter s [] (bound_names bounds)
   pub sorts : AreSorts s (bound_sorts bounds)
   pub is : scope ≡ scope_of kind s bounds
+  pub keeps : IsSignature s
+  pub distinct : AreDistinct scope
   pub apart : AreApart s scope
 
 -- the goal of a name, a scope and formulas

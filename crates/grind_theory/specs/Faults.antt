@@ -6,16 +6,15 @@ use Rattle.grind_term_graph.specs.Terms.{prop, opening as opening_nodes}
 use Rattle.grind_schemes.specs.declared.scheme.Scheme.{Scheme}
 use Rattle.grind_schemes.specs.Goals.{GoalData}
 use Rattle.grind_schemes.specs.Instances.{interned}
-use Rattle.grind_grammar.specs.Terms.{Term, Bound, Annotation, Left, Right, Hyps, Concl, Pattern, Declaration, Sort, Fun, Theorem, Goal, Limit}
+use Rattle.grind_grammar.specs.Terms.{Term, Bound, Annotation, Declaration, Sort, Fun, Theorem, Goal, Limit}
 use Rattle.grind_signature.specs.Signatures.{SignatureData, IsHeld}
 use Rattle.grind_resolution.specs.declared.meaning.BinderKind.TheVariants as binders
-use Rattle.grind_resolution.specs.Scopes.{Given}
-use Rattle.grind_resolution.specs.Sorting.{Known, Counted, HasSort, IsSorted}
+use Rattle.grind_resolution.specs.Sorting.{Known, Counted, IsSorted}
 use Rattle.grind_resolution.specs.Resolved.{StandsFor}
 use Rattle.grind_resolution.specs.Sizes.{size}
-use Rattle.grind_patterns.specs.declared.kind.Kind.{Kind}
-use Rattle.grind_patterns.specs.declared.kind.Kind.TheVariants as annotated
-use Rattle.grind_patterns.specs.Patterns.{PatternsOf}
+use Rattle.grind_annotations.specs.Written.{AllWritten, written_sizes}
+use Rattle.grind_annotations.specs.Giving.{StandForEach, GivePatterns}
+use Rattle.grind_annotations.specs.Asking.{IsFormulaTerm}
 use Rattle.grind_theory.specs.declared.limits.LimitKind.{LimitKind}
 use Rattle.grind_theory.specs.declared.theory.Fault.{Fault}
 use Rattle.grind_theory.specs.declared.theory.Fault.TheVariants as faults
@@ -37,18 +36,6 @@ IsNew state (Theorem name bounds annotations body) =
 IsNew state (Goal name bounds hyps show) =
     ¬ IsHeld state.signature name × AreNewAfter state.signature [] (bound_names bounds)
 IsNew state (Limit name value) = (kind : LimitKind) → name ≡ limit_name kind → ¬ Contains state.set kind
-
--- the terms that an annotation writes
-abbrev pub written : Annotation → List Term
-written Left = []
-written Right = []
-written Hyps = []
-written Concl = []
-written (Pattern terms) = terms
-
--- this holds of each term that the annotations write
-abbrev pub AllWritten : (Term → Type 0) → List Annotation → Type 0
-AllWritten P annotations = AllByRecursion (λ annotation. AllByRecursion P (written annotation)) annotations
 
 -- the names of sorts are those of declared sorts
 abbrev pub AreSorts : SignatureData → List (List ℕ) → Type 0
@@ -83,10 +70,6 @@ IsCounted state (Limit name value) = Unit {0}
 abbrev pub AreNoFormulas : SignatureData → List (List ℕ) → Type 0
 AreNoFormulas s names = AllByRecursion (λ sort. sort ≢ prop) (sort_numbers s names)
 
--- the term is a formula
-abbrev pub IsFormulaTerm : (List ℕ → Given → Type 0) → Term → Type 0
-IsFormulaTerm gives t = HasSort gives t prop
-
 -- formulas are formulas, written patterns have a sort, and no argument of a function and no variable is of sort Prop
 abbrev pub IsWellSorted : State → Declaration → Type 0
 IsWellSorted state (Sort name) = Unit {0}
@@ -99,34 +82,6 @@ IsWellSorted state (Goal name bounds hyps show) =
     AllByRecursion (IsFormulaTerm (Names binders.Constant state.signature bounds)) hyps
     × IsFormulaTerm (Names binders.Constant state.signature bounds) show
 IsWellSorted state (Limit name value) = Unit {0}
-
-module _ (gives : List ℕ → Given → Type 0) where
-  -- the terms stand for these schemes, one each
-  abbrev pub StandForEach : List Term → List Scheme → Type 0
-  StandForEach [] [] = Unit {0}
-  StandForEach [] (scheme ∷ schemes) = ⊥
-  StandForEach (t ∷ terms) [] = ⊥
-  StandForEach (t ∷ terms) (scheme ∷ schemes) = StandsFor gives t scheme × StandForEach terms schemes
-
-  -- the annotation, with the schemes of the terms that it writes
-  abbrev pub Annotates : Annotation → Kind → Type 0
-  Annotates Left kind = kind ≡ annotated.Left
-  Annotates Right kind = kind ≡ annotated.Right
-  Annotates Hyps kind = kind ≡ annotated.Hyps
-  Annotates Concl kind = kind ≡ annotated.Concl
-  Annotates (Pattern terms) kind = (schemes : List Scheme) × StandForEach terms schemes × (kind ≡ annotated.Written schemes)
-
-  -- the annotation gives these patterns of a theorem with variables of these sorts and this body
-  abbrev pub GivesPatterns : List ℕ → Scheme → Annotation → List Scheme → Type 0
-  GivesPatterns vars body annotation patterns = (kind : Kind) × Annotates annotation kind × PatternsOf vars body kind patterns
-
-  -- the annotations give these lists of patterns, one each and in order
-  abbrev pub GivePatterns : List ℕ → Scheme → List Annotation → List (List Scheme) → Type 0
-  GivePatterns vars body [] [] = Unit {0}
-  GivePatterns vars body [] (patterns ∷ lists) = ⊥
-  GivePatterns vars body (annotation ∷ annotations) [] = ⊥
-  GivePatterns vars body (annotation ∷ annotations) (patterns ∷ lists) =
-      GivesPatterns vars body annotation patterns × GivePatterns vars body annotations lists
 
 -- the theorem of this body and these binders and annotations: the scheme of its body and its lists of patterns
 pub record IsTheoremOf (s : SignatureData) (bounds : List Bound) (annotations : List Annotation) (body : Term) (scheme : Scheme) (patterns : List (List Scheme)) : Type 0 where
@@ -162,15 +117,6 @@ pub record IsGoalOf (s : SignatureData) (name : List ℕ) (bounds : List Bound) 
       × StandsFor (Names binders.Constant s bounds) show last × (goal.hyps ≡ (interned_each opening_nodes schemes).1)
       × ((goal.terms.nodes, goal.show) ≡ interned (interned_each opening_nodes schemes).0 [] last)
   pub limit : goal.terms.limit ≡ most_nodes
-
--- the nodes of the terms as they are written
-abbrev pub sizes : List Term → ℕ
-sizes [] = 0
-sizes (t ∷ terms) = size t + sizes terms
-
-abbrev pub written_sizes : List Annotation → ℕ
-written_sizes [] = 0
-written_sizes (annotation ∷ annotations) = sizes (written annotation) + written_sizes annotations
 
 -- a function has at most 16 arguments, and a theorem 16 variables; a theorem and its patterns have at most 256 nodes as they
 -- are written, a goal's table has at most 65,536; and a limit is in its range

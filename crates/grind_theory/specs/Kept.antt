@@ -4,13 +4,11 @@ use Rattle.std.specs.List.{AllByRecursion}
 use Rattle.grind_schemes.specs.Labels.{IsLabel}
 use Rattle.grind_grammar.specs.declared.syntax.Name.{Name}
 use Rattle.grind_grammar.specs.declared.syntax.Binder.{Binder}
-use Rattle.grind_grammar.specs.declared.syntax.Annot.{Annot}
-use Rattle.grind_grammar.specs.declared.syntax.Annot.TheVariants as annots
-use Rattle.grind_grammar.specs.declared.syntax.Tree.{Tree}
 use Rattle.grind_grammar.specs.declared.syntax.Decl.{Decl}
 use Rattle.grind_grammar.specs.declared.syntax.Decl.TheVariants as decls
-use Rattle.grind_grammar.specs.Terms.{Term, Bound, Annotation, Left, Right, Hyps, Concl, Pattern, Declaration, Sort, Fun, Theorem, Goal, Limit}
+use Rattle.grind_grammar.specs.Terms.{Bound, Declaration, Sort, Fun, Theorem, Goal, Limit}
 use Rattle.grind_grammar.specs.Keeps.{IsPlaced, name_of, IsPlacedTree, term_of, KeepsDecls}
+use Rattle.grind_annotations.specs.Written.{terms_of, annotations_of, IsPlacedAnnot}
 use Rattle.grind_theory.specs.States.{bound_names}
 
 -- the names that a declaration declares and that reports print are labels
@@ -25,12 +23,9 @@ HasLabels (Limit name value) = Unit {0}
 abbrev pub AreKept : List ℕ → List Decl → Type 0
 AreKept text kept = (ds : List Declaration) × KeepsDecls text kept ds × AllByRecursion HasLabels ds
 
--- names and terms of the text
+-- names of the text
 abbrev pub names_of : List ℕ → List Name → List (List ℕ)
 names_of text names = map (name_of text) names
-
-abbrev pub terms_of : List ℕ → List Tree → List Term
-terms_of text trees = map (term_of text) trees
 
 -- binders
 abbrev pub bound_of : List ℕ → Binder → Bound
@@ -41,24 +36,6 @@ bounds_of text binders = map (bound_of text) binders
 
 abbrev pub IsPlacedBinder : List ℕ → Binder → Type 0
 IsPlacedBinder text binder = IsPlaced text binder.name × IsPlaced text binder.sort
-
--- annotations
-abbrev pub annotation_of : List ℕ → Annot → Annotation
-annotation_of text annots.Left = Left
-annotation_of text annots.Right = Right
-annotation_of text annots.Hyps = Hyps
-annotation_of text annots.Concl = Concl
-annotation_of text (annots.Pattern trees) = Pattern (terms_of text trees)
-
-abbrev pub annotations_of : List ℕ → List Annot → List Annotation
-annotations_of text annots = map (annotation_of text) annots
-
-abbrev pub IsPlacedAnnot : List ℕ → Annot → Type 0
-IsPlacedAnnot text annots.Left = Unit {0}
-IsPlacedAnnot text annots.Right = Unit {0}
-IsPlacedAnnot text annots.Hyps = Unit {0}
-IsPlacedAnnot text annots.Concl = Unit {0}
-IsPlacedAnnot text (annots.Pattern trees) = AllByRecursion (IsPlacedTree text) trees
 
 -- a declaration
 abbrev pub declaration_of : List ℕ → Decl → Declaration
@@ -82,3 +59,11 @@ IsPlacedDecl text (decls.Goal name binders hyps show) =
     IsPlaced text name × AllByRecursion (IsPlacedBinder text) binders × AllByRecursion (IsPlacedTree text) hyps
     × IsPlacedTree text show
 IsPlacedDecl text (decls.Limit name value) = IsPlaced text name
+
+-- it is that of a sort, a function or a limit, and so has no heading of a name and binders
+abbrev pub HasNoHeading : Decl → Type 0
+HasNoHeading (decls.Sort name) = Unit {0}
+HasNoHeading (decls.Fun name args result) = Unit {0}
+HasNoHeading (decls.Theorem name binders annots body) = ⊥
+HasNoHeading (decls.Goal name binders hyps show) = ⊥
+HasNoHeading (decls.Limit name value) = Unit {0}

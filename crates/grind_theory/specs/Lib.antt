@@ -1,8 +1,8 @@
-pub mod Annotating
 pub mod Asking
 pub mod Building
 pub mod Declaring
 pub mod Faults
+pub mod Headings
 pub mod Kept
 pub mod Laws
 pub mod States

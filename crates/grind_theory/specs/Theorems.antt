@@ -8,7 +8,8 @@ use Rattle.grind_resolution.specs.Resolved.{StandsFor}
 use Rattle.grind_resolution.specs.Sizes.{size}
 use Rattle.grind_theory.specs.declared.theory.Fault.{Fault}
 use Rattle.grind_theory.specs.declared.theory.Fault.TheVariants as faults
-use Rattle.grind_theory.specs.Faults.{GivePatterns, written_sizes}
+use Rattle.grind_annotations.specs.Giving.{GivePatterns}
+use Rattle.grind_annotations.specs.Written.{written_sizes}
 
 -- there is an annotation exactly where there is a variable
 abbrev pub IsAnnotated : List ℕ → List Annotation → Type 0

@@ -12,7 +12,7 @@ use Rattle.grind_theory.specs.declared.theory.Theory.{Theory}
 use Rattle.grind_theory.specs.States.{State, state_data, opening_state, limit_name, limits_data, with_limit, sort_number, sort_numbers, bound_sorts}
 use Rattle.grind_theory.specs.Faults.{IsNew, IsKnown, IsCounted, IsWellSorted, IsPatterned, IsSmall, IsTheoremOf, IsGoalOf, FaultOf}
 
--- what the declaration adds: a sort, a function, a theorem behind those before it, a goal behind those before it, or the value
+-- what the declaration adds: a sort, a function, a theorem after those before it, a goal after those before it, or the value
 -- of a limit. The names of theorems and goals are labels
 abbrev pub Adds : State → Declaration → State → Type 0
 Adds before (Sort name) after =

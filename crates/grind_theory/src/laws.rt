@@ -1,26 +1,26 @@
-//! What holds of every theory. Each law is a call that does nothing: who makes the call knows the law.
+//! What holds of every theory. Each law is the contract of a function that does nothing.
 ghost use Rattle.grind_theory.specs.Laws.{OneFault, NoneFaulty, EachJudged, NoneRefused, OneRefusal, OneTheory};
 
 use grind_resolution::laws::one_scheme;
 
-/// A declaration has one first fault at most, and none where it is taken.
+/// A declaration has at most one first fault, and none if it is taken.
 pub fn one_fault()
     ensures one { OneFault }
     ensures none { NoneFaulty }
 {}
 
-/// No declaration is neither taken nor has a fault.
+/// No declaration is neither taken nor at fault.
 pub fn each_is_judged()
     ensures { EachJudged }
 {}
 
-/// Declarations that make a theory are not refused, and others are refused at one of them at most, with one fault.
+/// Declarations that make a theory are not refused; others are refused at no more than one of them, with one fault.
 pub fn one_refusal()
     ensures apart { NoneRefused }
     ensures one { OneRefusal }
 {}
 
-/// Declarations make one theory at most, but for the room that the schemes of its theorems have.
+/// Declarations make at most one theory, up to the capacity of lists in the schemes of its theorems.
 pub fn one_theory()
     ensures { OneTheory }
 {

@@ -2,19 +2,20 @@
 //! search, and the terms of each goal; or the first declaration that is bad, and what is wrong with it.
 #![tactic(auto)]
 
-mod annotations;
 mod binders;
 mod declarations;
-pub mod elaborate;
-mod formulas;
+pub mod elaboration;
+mod goal_faults;
 mod goals;
+mod heading;
 pub mod laws;
 mod limits;
-mod patterns;
 mod sorts;
+mod theorem_faults;
 mod theorem_sizes;
 mod theorems;
 pub mod theory;
 
+pub use elaboration::elaborate;
 pub use limits::LimitKind;
 pub use theory::{Fault, Theory, TheoryRefusal};

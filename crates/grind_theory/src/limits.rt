@@ -5,10 +5,10 @@ ghost use Rattle.grind_grammar.specs.Keeps.{IsPlaced, name_of};
 ghost use Rattle.grind_theory.specs.States.{limit_name, greatest, limits_data, with_limit};
 ghost use Rattle.grind_theory.specs.Declaring.{HasLimitFault, IsLimitAdded};
 
-use crate::sorts::bytes_of;
 use crate::theory::{DeclRefusal, Fault};
 use grind_grammar::Name;
 use grind_outside::List;
+use grind_resolution::bytes_of;
 use grind_schemes::Limits;
 
 /// A limit of a search.
@@ -26,7 +26,7 @@ pub enum LimitKind {
     Pairs,
 }
 
-/// The limit of that name, or None exactly where there is none.
+// The limit with that name, or None if there is none.
 fn find_limit(name: &[u8]) -> Option<LimitKind>
     ensures { MatchOption result ((kind : LimitKind) → ¬ (name.now ≡ limit_name kind)) (λ kind. name.now ≡ limit_name kind) }
 {
@@ -48,7 +48,7 @@ fn find_limit(name: &[u8]) -> Option<LimitKind>
     None
 }
 
-/// The greatest value of a limit.
+// The greatest value of a limit.
 fn greatest_of(kind: LimitKind) -> u32
     ensures { result ≡ greatest kind }
 {
@@ -61,14 +61,14 @@ fn greatest_of(kind: LimitKind) -> u32
     }
 }
 
-/// Whether a limit is among these.
+// Whether a limit is among these.
 fn is_set(set: &[LimitKind], kind: LimitKind) -> bool
     ensures { IsTrue result ↔ Contains set.now kind }
 {
     set.contains(&kind)
 }
 
-/// The limits with this one set to the value.
+// The limits with this one set to the value.
 fn with_value(limits: Limits, kind: LimitKind, value: u32) -> Limits
     requires { value ≤ greatest kind }
     ensures { limits_data result ≡ with_limit (limits_data limits) kind value }

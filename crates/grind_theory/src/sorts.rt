@@ -10,19 +10,12 @@ ghost use Rattle.grind_theory.specs.Declaring.{HasFault, IsAdded, SortsFound};
 use crate::theory::{DeclRefusal, Fault};
 use grind_grammar::Name;
 use grind_outside::{List, Memory};
-use grind_signature::signature::{Signature, SignatureRefusal};
+use grind_resolution::bytes_of;
+use grind_signature::{Signature, SignatureRefusal};
 use grind_term_graph::SortId;
 use std::alloc::Global;
 
-/// The bytes of a name.
-pub(crate) fn bytes_of(text: &[u8], name: Name) -> &[u8]
-    requires { IsPlaced text.now name }
-    ensures { result.now ≡ name_of text.now name }
-{
-    &text[name.start as usize..name.end as usize]
-}
-
-/// A name that is held already is a duplicate.
+/// The refusal of a declaration whose name was refused.
 pub(crate) fn refusal_of(refusal: SignatureRefusal) -> DeclRefusal
     ensures { (fault : Fault) → result ≡ DeclRefusal.Faulty fault → (refusal ≡ SignatureRefusal.Duplicate) × (fault ≡ Fault.Duplicate) }
 {
@@ -50,7 +43,7 @@ pub(crate) fn declare_sort(
     }
 }
 
-/// The sorts of these names, or None exactly where one of them is no sort's.
+/// The sorts with these names, or None if one of them is not the name of a sort.
 pub(crate) fn find_sorts(
     alloc: Global,
     text: &[u8],
@@ -72,7 +65,7 @@ pub(crate) fn find_sorts(
     Ok(Some(done))
 }
 
-/// Whether none of the sorts is that of formulas.
+/// Whether none of the sorts is `Prop`.
 pub(crate) fn has_no_formulas(sorts: &[SortId]) -> bool
     ensures { IsTrue result ↔ All (λ sort. sort ≢ prop) sorts.now }
 {
@@ -84,41 +77,51 @@ pub(crate) fn has_no_formulas(sorts: &[SortId]) -> bool
     true
 }
 
+/// A declared function: its name, and the names of the sorts of its arguments and of its value.
+#[derive(Drop)]
+pub(crate) struct Signed<'a> {
+    /// The name.
+    pub(crate) name: Name,
+    /// The sorts of the arguments, in order.
+    pub(crate) args: &'a [Name],
+    /// The sort of the value.
+    pub(crate) own: Name,
+}
+
 /// Declares a function.
 pub(crate) fn declare_fun(
     alloc: Global,
     text: &[u8],
     signature: &mut Signature,
-    name: Name,
-    args: &[Name],
-    own: Name,
+    fun: &Signed<'_>,
 ) -> Result<(), DeclRefusal>
-    requires placed { IsPlaced text.now name }
-    requires args { All (IsPlaced text.now) args.now }
-    requires own { IsPlaced text.now own }
-    requires label { IsLabel (name_of text.now name) }
-    ensures ok { OnOk result (IsAdded signature.old (Fun (name_of text.now name) (names_of text.now args.now) (name_of text.now own)) signature.new) }
+    requires placed { IsPlaced text.now fun.now.name }
+    requires args { All (IsPlaced text.now) fun.now.args.now }
+    requires own { IsPlaced text.now fun.now.own }
+    requires label { IsLabel (name_of text.now fun.now.name) }
+    ensures ok { OnOk result (IsAdded signature.old (Fun (name_of text.now fun.now.name) (names_of text.now fun.now.args.now) (name_of text.now fun.now.own)) signature.new) }
     ensures faulty { (fault : Fault) → result ≡ Err (DeclRefusal.Faulty fault)
-        → HasFault signature.old (Fun (name_of text.now name) (names_of text.now args.now) (name_of text.now own)) fault }
+        → HasFault signature.old (Fun (name_of text.now fun.now.name) (names_of text.now fun.now.args.now) (name_of text.now fun.now.own)) fault }
 {
-    let bytes = bytes_of(text, name);
+    let bytes = bytes_of(text, fun.name);
     if signature.holds(bytes) {
         return Err(DeclRefusal::Faulty(Fault::Duplicate));
     }
-    let Some(sort) = signature.find_sort(bytes_of(text, own)) else {
+    let Some(sort) = signature.find_sort(bytes_of(text, fun.own)) else {
         return Err(DeclRefusal::Faulty(Fault::Unknown));
     };
-    let found = match find_sorts(alloc, text, signature, args) {
+    let found = match find_sorts(alloc, text, signature, fun.args) {
         Ok(found) => found,
         Err(_) => return Err(DeclRefusal::Memory),
     };
-    let Some(sorts) = found else {
+    let Some(list) = found else {
         return Err(DeclRefusal::Faulty(Fault::Unknown));
     };
-    if !has_no_formulas(sorts.as_slice()) {
+    let sorts = list.as_slice();
+    if !has_no_formulas(sorts) {
         return Err(DeclRefusal::Faulty(Fault::Sort));
     }
-    if args.len() > 16 {
+    if sorts.len() > 16 {
         return Err(DeclRefusal::Faulty(Fault::Size));
     }
     match signature.declare_fun(alloc, bytes, sorts, sort) {

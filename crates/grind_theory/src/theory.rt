@@ -1,7 +1,7 @@
 //! What the declarations of a file make, or what is wrong with them.
 use grind_outside::{List, Memory};
 use grind_schemes::{Goal, Lemmas};
-use grind_signature::signature::Signature;
+use grind_signature::Signature;
 
 /// A theory: its declared names, what it gives to prove with, and its goals in order. Every theorem and limit of
 /// the file serves every goal.
@@ -43,7 +43,7 @@ pub enum TheoryRefusal {
         /// The first fault that it has.
         fault: Fault,
     },
-    /// Memory was wanted, and there was none.
+    /// Out of memory.
     Memory,
 }
 
@@ -52,7 +52,7 @@ pub enum TheoryRefusal {
 pub(crate) enum DeclRefusal {
     /// This is its first fault.
     Faulty(Fault),
-    /// Memory was wanted, and there was none.
+    /// Out of memory.
     Memory,
 }
 

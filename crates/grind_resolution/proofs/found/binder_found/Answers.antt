@@ -4,5 +4,5 @@ use Rattle.grind_resolution.proofs.found.binder_found.Goals as goal
 
 pub returns : goal.returns
 returns c =
-    only_binder c.args.signature.now c.args.scope.now c.sort_count-signature.ensures.keeps c.len-scope.ensures.distinct c.requires.apart
-    c.args.name.now c.args.number c.meaning.result [] c.sort.result c.requires.place c.meaning.ensures refl c.sort.ensures
+    only_binder c.args.context.now.signature.now c.args.context.now.scope.now c.args.context.now.keeps c.args.context.now.distinct c.args.context.now.apart
+    c.args.name.now c.args.number c.meaning.result [] c.sort.result c.requires c.meaning.ensures refl c.sort.ensures

@@ -1,5 +1,5 @@
 use Rattle.grind_grammar.specs.Keeps.{term_of}
-use Rattle.grind_theory.specs.Kept.{annotations_of}
+use Rattle.grind_annotations.specs.Written.{annotations_of}
 use Rattle.grind_theory.proofs.TheoremNodes.{small-counted}
 use Rattle.grind_theory.proofs.theorem_sizes.is_small.Goals as goal
 

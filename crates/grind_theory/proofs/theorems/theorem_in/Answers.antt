@@ -5,8 +5,9 @@ use Rattle.grind_schemes.specs.Schemes.{scheme_sort, IsScheme, IsHeadedByFunctio
 use Rattle.grind_schemes.specs.Theorems.{HoldsEach, IsTheorem, theorem_data}
 use Rattle.grind_grammar.specs.Keeps.{term_of, name_of}
 use Rattle.grind_resolution.specs.Scopes.{Gives}
-use Rattle.grind_theory.specs.Kept.{annotations_of}
-use Rattle.grind_theory.specs.Annotating.{ListsOrNone}
+use Rattle.grind_resolution.specs.Contexts.{gives_in}
+use Rattle.grind_annotations.specs.Written.{annotations_of}
+use Rattle.grind_annotations.specs.Annotating.{ListsOrNone}
 use Rattle.grind_theory.specs.Theorems.{IsAnnotated, HasPatterns, FaultOfTheorem}
 use Rattle.grind_theory.proofs.FunTaking.{same_Err, same_Faulty}
 use Rattle.grind_theory.proofs.TheoremMaking.{annotated-kept, kept-annotated, theorem-kept, no_lists, theorem-is}
@@ -14,8 +15,8 @@ use Rattle.grind_theory.proofs.theorems.theorem_in.Goals as goal
 
 pub returns-then-not-is_annotated-clause-faulty : goal.returns-then-not-is_annotated-clause-faulty
 returns-then-not-is_annotated-clause-faulty c = λ fault e.
-    let text = c.args.text.now in
-    let gives = Gives c.args.signature.now c.args.scope.now in
+    let text = c.args.context.now.text.now in
+    let gives = gives_in c.args.context.now in
     let annotations = annotations_of text c.args.annots.now in
     let body = term_of text c.args.body.now in
     subst (FaultOfTheorem gives c.args.vars annotations body) (same_Faulty _ _ (same_Err _ _ e))
@@ -25,19 +26,19 @@ returns-then-not-is_annotated-clause-faulty c = λ fault e.
 
 pub lists_of_annots-requires-clause-formed : goal.lists_of_annots-requires-clause-formed
 lists_of_annots-requires-clause-formed c =
-    let s = c.args.signature.now in
-    let scope = c.args.scope.now in
-    let single = c.one_meaning.ensures s scope c.sort_count-sorts.ensures.keeps c.len-binders.ensures.distinct c.requires.apart in
-    let formed = c.schemes_are_formed.ensures s scope c.sort_count-sorts.ensures.keeps single (term_of c.args.text.now c.args.body.now) prop c.in-Ok.scheme
+    let s = c.args.context.now.signature.now in
+    let scope = c.args.context.now.scope.now in
+    let single = c.one_meaning.ensures s scope c.args.context.now.keeps c.args.context.now.distinct c.args.context.now.apart in
+    let formed = c.schemes_are_formed.ensures s scope c.args.context.now.keeps single (term_of c.args.context.now.text.now c.args.body.now) prop c.in-Ok.scheme
     c.requires.formula c.in-Ok.ensures in
     subst (λ v. IsScheme v c.in-Ok.scheme) (c.requires.variables ∙ sym c.as_slice-sorts.ensures.value) formed.0
 
 pub returns-in_default-clause-faulty : goal.returns-in_default-clause-faulty
 returns-in_default-clause-faulty c = λ fault e.
-    let text = c.args.text.now in
-    let s = c.args.signature.now in
-    let scope = c.args.scope.now in
-    let single = c.one_meaning.ensures s scope c.sort_count-sorts.ensures.keeps c.len-binders.ensures.distinct c.requires.apart in
+    let text = c.args.context.now.text.now in
+    let s = c.args.context.now.signature.now in
+    let scope = c.args.context.now.scope.now in
+    let single = c.one_meaning.ensures s scope c.args.context.now.keeps c.args.context.now.distinct c.args.context.now.apart in
     let gives = Gives s scope in
     let annotations = annotations_of text c.args.annots.now in
     let body = term_of text c.args.body.now in
@@ -48,8 +49,8 @@ returns-in_default-clause-faulty c = λ fault e.
 
 pub returns-then-not-is_small-clause-faulty : goal.returns-then-not-is_small-clause-faulty
 returns-then-not-is_small-clause-faulty c = λ fault e.
-    let text = c.args.text.now in
-    let gives = Gives c.args.signature.now c.args.scope.now in
+    let text = c.args.context.now.text.now in
+    let gives = gives_in c.args.context.now in
     let annotations = annotations_of text c.args.annots.now in
     let body = term_of text c.args.body.now in
     let given = subst (ListsOrNone gives c.as_slice-sorts.result.now c.in-Ok.scheme annotations) c.in-Some.is c.in-Ok-lists_of_annots.ensures.found in
@@ -69,12 +70,12 @@ returns-then-not-is_small-clause-faulty c = λ fault e.
 
 pub name_theorem-requires : goal.name_theorem-requires
 name_theorem-requires c =
-    let text = c.args.text.now in
-    let s = c.args.signature.now in
-    let scope = c.args.scope.now in
+    let text = c.args.context.now.text.now in
+    let s = c.args.context.now.signature.now in
+    let scope = c.args.context.now.scope.now in
     let sorts = c.as_slice-sorts.result.now in
-    let single = c.one_meaning.ensures s scope c.sort_count-sorts.ensures.keeps c.len-binders.ensures.distinct c.requires.apart in
-    let formed = c.schemes_are_formed.ensures s scope c.sort_count-sorts.ensures.keeps single (term_of text c.args.body.now) prop c.in-Ok.scheme
+    let single = c.one_meaning.ensures s scope c.args.context.now.keeps c.args.context.now.distinct c.args.context.now.apart in
+    let formed = c.schemes_are_formed.ensures s scope c.args.context.now.keeps single (term_of text c.args.body.now) prop c.in-Ok.scheme
     c.requires.formula c.in-Ok.ensures in
     let annotations = annotations_of text c.args.annots.now in
     let given = subst (ListsOrNone (Gives s scope) sorts c.in-Ok.scheme annotations) c.in-Some.is c.in-Ok-lists_of_annots.ensures.found in
@@ -89,8 +90,8 @@ name_theorem-requires c =
 
 pub returns-in-Ok-name_theorem-clause-ok : goal.returns-in-Ok-name_theorem-clause-ok
 returns-in-Ok-name_theorem-clause-ok c =
-    let text = c.args.text.now in
-    let gives = Gives c.args.signature.now c.args.scope.now in
+    let text = c.args.context.now.text.now in
+    let gives = gives_in c.args.context.now in
     let sorts = c.as_slice-sorts.result.now in
     let annotations = annotations_of text c.args.annots.now in
     let body = term_of text c.args.body.now in

@@ -1,0 +1,4 @@
+pub mod ItemLemmas
+pub mod SizeLemmas
+pub mod SamePatterns
+mod AnnotationLaws

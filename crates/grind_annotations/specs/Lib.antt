@@ -1,0 +1,4 @@
+pub mod Annotating
+pub mod Asking
+pub mod Giving
+pub mod Written
