@@ -9,10 +9,10 @@ returns-in_default-clause-is c = no_keyword c.args.keyword.now _ c.in_default.en
 
 pub returns-then-is_same-clause-is : goal.returns-then-is_same-clause-is
 returns-then-is_same-clause-is c =
-    let is : bytes_eq (name_of c.args.text.now c.in-Some.name) c.args.keyword.now ≡ true = cc in
+    let is : bytes_eq (name_of c.args.source.now.text.now c.in-Some.name) c.args.keyword.now ≡ true = cc in
     keyword_front c.args.keyword.now _ _ _ c.in-Some.ensures.is is
 
 pub returns-clause-is : goal.returns-clause-is
 returns-clause-is c =
-    let other : bytes_eq (name_of c.args.text.now c.in-Some.name) c.args.keyword.now ≡ false = cc in
+    let other : bytes_eq (name_of c.args.source.now.text.now c.in-Some.name) c.args.keyword.now ≡ false = cc in
     keyword_other c.args.keyword.now _ _ _ c.in-Some.ensures.is other
