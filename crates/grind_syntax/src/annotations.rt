@@ -1,4 +1,4 @@
-//! The annotations of a theorem.
+//! The annotations of a theorem. One with a term deeper than the limit is judged, and not kept.
 ghost use Rattle.std.specs.Prelude.{◌≡◌, ℕ, List, Some, None, MatchOption, IfOk, IfSome};
 ghost use Rattle.grind_tokens.specs.declared.tokens.Sym.TheVariants as symbols;
 ghost use Rattle.grind_grammar.specs.Reading as reading;
@@ -9,15 +9,12 @@ ghost use Rattle.grind_syntax.specs.Annotated.{annotation_given, IsPlacedAnnotat
 
 use crate::levels::Level;
 use crate::names::{any_symbol_at, bytes_of, is_same, symbol_at, word_at};
-use crate::source::Source;
+use crate::source::{Read, Source};
 use crate::terms::read_parts;
 use crate::trees::listed;
 use grind_grammar::Annot;
 use grind_outside::{List, Memory};
 use grind_tokens::tokens::Sym;
-
-// What a reader of an annotation gives: the annotation, if its terms are no deeper than the limit, and the place after it.
-type Read = Result<Option<(Option<Annot>, usize)>, Memory>;
 
 // The place after a word that stands here.
 fn keyword_at(source: &Source, at: usize, keyword: &[u8]) -> Option<usize>
@@ -25,9 +22,7 @@ fn keyword_at(source: &Source, at: usize, keyword: &[u8]) -> Option<usize>
         (λ left. reading.word_at keyword.now (ahead source.now at) ≡ Some (ahead source.now left)) }
     ensures left { IfSome result (λ left. IsPast source.now at left) }
 {
-    let Some((name, left)) = word_at(source, at) else {
-        return None;
-    };
+    let (name, left) = word_at(source, at)?;
     if is_same(bytes_of(source.text, name), keyword) {
         return Some(left);
     }
@@ -35,7 +30,7 @@ fn keyword_at(source: &Source, at: usize, keyword: &[u8]) -> Option<usize>
 }
 
 // Reads what stands after the word of patterns.
-fn patterns(source: &Source, room: u8, at: usize) -> Read
+fn patterns(source: &Source, room: u8, at: usize) -> Read<Option<Annot>>
     ensures is { IfOk result (GivesMade source.now patterns_of (reading.list_at (level levels.Sum room) symbols.Comma (ahead source.now at))
         (annotation_given source.now.text.now)) }
     ensures left { IfOk result (Leaves (IsPlacedAnnot source.now.text.now) at) }
@@ -63,9 +58,7 @@ fn short(source: &Source, sym: Sym, at: usize) -> Option<(Annot, usize)>
         }
         Sym::Arrow => Some((Annot::Hyps, at)),
         Sym::Lt => {
-            let Some(left) = symbol_at(source, at, Sym::Minus) else {
-                return None;
-            };
+            let left = symbol_at(source, at, Sym::Minus)?;
             Some((Annot::Concl, left))
         }
         _ => None,
@@ -73,7 +66,7 @@ fn short(source: &Source, sym: Sym, at: usize) -> Option<(Annot, usize)>
 }
 
 // Reads an annotation without its brackets.
-fn inside(source: &Source, room: u8, at: usize) -> Read
+fn inside(source: &Source, room: u8, at: usize) -> Read<Option<Annot>>
     ensures is { IfOk result (Gives source.now (reading.annot_inside (level levels.Sum room) (ahead source.now at))
         (annotation_given source.now.text.now)) }
     ensures left { IfOk result (Leaves (IsPlacedAnnot source.now.text.now) at) }
@@ -97,7 +90,7 @@ fn inside(source: &Source, room: u8, at: usize) -> Read
 }
 
 // Reads an annotation after its left bracket, and the right bracket.
-fn bracketed(source: &Source, room: u8, at: usize) -> Read
+fn bracketed(source: &Source, room: u8, at: usize) -> Read<Option<Annot>>
     ensures is { IfOk result (Gives source.now
         (reading.closed symbols.RightSquare (reading.annot_inside (level levels.Sum room) (ahead source.now at)))
         (annotation_given source.now.text.now)) }
@@ -133,11 +126,7 @@ fn with_annot(
 }
 
 // Reads annotations, as many as there are.
-pub(crate) fn annotations(
-    source: &Source,
-    room: u8,
-    at: usize,
-) -> Result<Option<(Option<List<Annot>>, usize)>, Memory>
+pub(crate) fn annotations(source: &Source, room: u8, at: usize) -> Read<Option<List<Annot>>>
     ensures is { IfOk result (GivesMade source.now reading.all_of (reading.annots (level levels.Sum room) (ahead source.now at))
         (annotations_given source.now.text.now)) }
     ensures left { IfOk result (Leaves (ArePlacedAnnots source.now.text.now) at) }

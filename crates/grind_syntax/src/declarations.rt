@@ -1,4 +1,4 @@
-//! Declarations, without the dot after them.
+//! Declarations, without the dot after them. One with a term deeper than the limit is judged, and not kept.
 ghost use Rattle.std.specs.Prelude.{map, IfOk};
 ghost use Rattle.grind_grammar.specs.Keeps.{IsPlaced, name_of};
 ghost use Rattle.grind_grammar.specs.Reading as reading;
@@ -14,18 +14,15 @@ use crate::kept::{goal_with, theorem_with};
 use crate::levels::Level;
 use crate::lists::{arguments, binders};
 use crate::names::{bytes_of, is_same, name_at, number_at, sort_at, symbol_at, word_at};
-use crate::source::Source;
+use crate::source::{Read, Source};
 use crate::terms::{read_level, read_parts};
 use crate::trees::{DEPTH, listed};
 use grind_grammar::{Decl, Name, Tree};
-use grind_outside::{List, Memory};
+use grind_outside::List;
 use grind_tokens::tokens::Sym;
 
-// What a reader of a declaration gives: the declaration, if its trees are no deeper than the limit, and the place after it.
-type Read = Result<Option<(Option<Decl>, usize)>, Memory>;
-
 // Reads what stands after the name of a function.
-fn function(source: &Source, name: Name, at: usize) -> Read
+fn function(source: &Source, name: Name, at: usize) -> Read<Option<Decl>>
     requires { IsPlaced source.now.text.now name }
     ensures is { IfOk result (Gives source.now (reading.function_of (name_of source.now.text.now name) (ahead source.now at))
         (declaration_given source.now.text.now)) }
@@ -49,7 +46,7 @@ fn function(source: &Source, name: Name, at: usize) -> Read
 }
 
 // Reads the hypotheses of a goal, and the turnstile after them.
-fn hypotheses(source: &Source, at: usize) -> Result<Option<(Option<List<Tree>>, usize)>, Memory>
+fn hypotheses(source: &Source, at: usize) -> Read<Option<List<Tree>>>
     ensures is { IfOk result (GivesMade source.now reading.all_of (reading.hyps (level levels.Formula depth_limit) (ahead source.now at))
         (trees_given source.now.text.now)) }
     ensures left { IfOk result (Leaves (AreTreesPlaced source.now.text.now) at) }
@@ -68,7 +65,7 @@ fn hypotheses(source: &Source, at: usize) -> Result<Option<(Option<List<Tree>>, 
 }
 
 // Reads what stands after the name of a theorem.
-fn theorem(source: &Source, name: Name, at: usize) -> Read
+fn theorem(source: &Source, name: Name, at: usize) -> Read<Option<Decl>>
     requires { IsPlaced source.now.text.now name }
     ensures is { IfOk result (Gives source.now
         (reading.theorem_of depth_limit depth_limit (name_of source.now.text.now name) (ahead source.now at))
@@ -91,7 +88,7 @@ fn theorem(source: &Source, name: Name, at: usize) -> Read
 }
 
 // Reads what stands after the name of a goal.
-fn goal(source: &Source, name: Name, at: usize) -> Read
+fn goal(source: &Source, name: Name, at: usize) -> Read<Option<Decl>>
     requires { IsPlaced source.now.text.now name }
     ensures is { IfOk result (Gives source.now
         (reading.goal_of depth_limit depth_limit (name_of source.now.text.now name) (ahead source.now at))
@@ -114,7 +111,7 @@ fn goal(source: &Source, name: Name, at: usize) -> Read
 }
 
 // Reads what stands after the word and the name of a declaration.
-fn named(source: &Source, keyword: Name, name: Name, at: usize) -> Read
+fn named(source: &Source, keyword: Name, name: Name, at: usize) -> Read<Option<Decl>>
     requires begun { IsPlaced source.now.text.now keyword }
     requires named { IsPlaced source.now.text.now name }
     ensures is { IfOk result (Gives source.now
@@ -148,7 +145,7 @@ fn named(source: &Source, keyword: Name, name: Name, at: usize) -> Read
 }
 
 // Reads a declaration.
-pub(crate) fn declaration(source: &Source, at: usize) -> Read
+pub(crate) fn declaration(source: &Source, at: usize) -> Read<Option<Decl>>
     ensures is { IfOk result (Gives source.now (reading.declaration depth_limit depth_limit (ahead source.now at))
         (declaration_given source.now.text.now)) }
     ensures left { IfOk result (Leaves (IsPlacedGiven source.now.text.now) at) }

@@ -90,9 +90,7 @@ pub(crate) fn op_at(source: &Source, level: Level, at: usize) -> Option<(Binary,
     ensures is { Gives source.now (reading.op_at (ops_of level) (ahead source.now at)) (λ op. op) result }
     ensures left { IfSome result (λ found. IsPast source.now at found.1) }
 {
-    let Some((sym, left)) = any_symbol_at(source, at) else {
-        return None;
-    };
+    let (sym, left) = any_symbol_at(source, at)?;
     let Some(op) = op_of(level, sym) else {
         return None;
     };

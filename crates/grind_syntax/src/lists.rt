@@ -8,14 +8,14 @@ ghost use Rattle.grind_syntax.specs.Places.{bound_of, IsPlacedBound};
 ghost use Rattle.grind_syntax.specs.Sources.{ahead, Gives, GivesMade, Leaves};
 
 use crate::names::{name_at, sort_at, symbol_at};
-use crate::source::Source;
+use crate::source::{Read, Source};
 use grind_grammar::{Binder, Name};
 use grind_outside::{List, Memory};
 use grind_tokens::tokens::Sym;
 use std::alloc::Global;
 
 // Reads sorts with commas between them.
-fn sorts(source: &Source, at: usize) -> Result<Option<(List<Name>, usize)>, Memory>
+fn sorts(source: &Source, at: usize) -> Read<List<Name>>
     ensures is { IfOk result (Gives source.now (reading.list_at reading.sort_at symbols.Comma (ahead source.now at)) (map (name_of source.now.text.now))) }
     ensures left { IfOk result (Leaves (All (IsPlaced source.now.text.now)) at) }
 {
@@ -32,7 +32,7 @@ fn sorts(source: &Source, at: usize) -> Result<Option<(List<Name>, usize)>, Memo
 }
 
 // Reads the sorts of a function's arguments, none where no parenthesis stands.
-pub(crate) fn arguments(source: &Source, at: usize) -> Result<Option<(List<Name>, usize)>, Memory>
+pub(crate) fn arguments(source: &Source, at: usize) -> Read<List<Name>>
     ensures is { IfOk result (Gives source.now (reading.in_parentheses reading.sort_at (ahead source.now at)) (map (name_of source.now.text.now))) }
     ensures left { IfOk result (Leaves (All (IsPlaced source.now.text.now)) at) }
 {
@@ -80,7 +80,7 @@ fn bind(alloc: Global, names: &[Name], sort: Name) -> Result<List<Binder>, Memor
 }
 
 // Reads names, a colon and their sort.
-fn group(source: &Source, at: usize) -> Result<Option<(List<Binder>, usize)>, Memory>
+fn group(source: &Source, at: usize) -> Read<List<Binder>>
     ensures is { IfOk result (Gives source.now (reading.group (ahead source.now at)) (map (bound_of source.now.text.now))) }
     ensures left { IfOk result (Leaves (All (IsPlacedBound source.now.text.now)) at) }
 {
@@ -99,7 +99,7 @@ fn group(source: &Source, at: usize) -> Result<Option<(List<Binder>, usize)>, Me
 }
 
 // Reads groups with commas between them, and puts what they bind into one list.
-fn groups(source: &Source, at: usize) -> Result<Option<(List<Binder>, usize)>, Memory>
+fn groups(source: &Source, at: usize) -> Read<List<Binder>>
     ensures is { IfOk result (GivesMade source.now joined (reading.list_at reading.group symbols.Comma (ahead source.now at))
         (map (bound_of source.now.text.now))) }
     ensures left { IfOk result (Leaves (All (IsPlacedBound source.now.text.now)) at) }
@@ -117,7 +117,7 @@ fn groups(source: &Source, at: usize) -> Result<Option<(List<Binder>, usize)>, M
 }
 
 // Reads the variables of a theorem or the constants of a goal, none where no parenthesis stands.
-pub(crate) fn binders(source: &Source, at: usize) -> Result<Option<(List<Binder>, usize)>, Memory>
+pub(crate) fn binders(source: &Source, at: usize) -> Read<List<Binder>>
     ensures is { IfOk result (Gives source.now (reading.binders (ahead source.now at)) (map (bound_of source.now.text.now))) }
     ensures left { IfOk result (Leaves (All (IsPlacedBound source.now.text.now)) at) }
 {

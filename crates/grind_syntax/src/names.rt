@@ -98,9 +98,7 @@ pub(crate) fn symbol_at(source: &Source, at: usize, sym: Sym) -> Option<usize>
         (λ left. reading.symbol_at sym (ahead source.now at) ≡ Some (ahead source.now left)) }
     ensures left { IfSome result (λ left. IsPast source.now at left) }
 {
-    let Some((found, left)) = any_symbol_at(source, at) else {
-        return None;
-    };
+    let (found, left) = any_symbol_at(source, at)?;
     if found == sym {
         return Some(left);
     }
@@ -163,9 +161,7 @@ pub(crate) fn name_at(source: &Source, at: usize) -> Option<(Name, usize)>
     ensures is { Gives source.now (reading.name_at (ahead source.now at)) (name_of source.now.text.now) result }
     ensures left { Takes source.now (IsPlaced source.now.text.now) at result }
 {
-    let Some((name, left)) = word_at(source, at) else {
-        return None;
-    };
+    let (name, left) = word_at(source, at)?;
     if is_name(bytes_of(source.text, name)) {
         return Some((name, left));
     }
@@ -177,9 +173,7 @@ pub(crate) fn sort_at(source: &Source, at: usize) -> Option<(Name, usize)>
     ensures is { Gives source.now (reading.sort_at (ahead source.now at)) (name_of source.now.text.now) result }
     ensures left { Takes source.now (IsPlaced source.now.text.now) at result }
 {
-    let Some((name, left)) = word_at(source, at) else {
-        return None;
-    };
+    let (name, left) = word_at(source, at)?;
     if is_sort(bytes_of(source.text, name)) {
         return Some((name, left));
     }

@@ -13,15 +13,12 @@ use crate::levels::{Level, MINUS, NOT, Sign, op_at};
 use crate::names::{bytes_of, is_name, is_same, number_at, symbol_at, word_at};
 use crate::parts::Parts;
 use crate::sides::Side;
-use crate::source::Source;
+use crate::source::{Read, Source};
 use crate::trees::{applied, fit, joined, two, with_part, with_signs};
 use grind_grammar::{Name, Tree};
-use grind_outside::{List, Memory};
+use grind_outside::List;
 use grind_tokens::tokens::Sym;
 use std::alloc::Global;
-
-// What a reader of a term gives: the tree, if it is no deeper than the limit, and the place after it.
-type Read = Result<Option<(Option<Built>, usize)>, Memory>;
 
 // Counts the signs here.
 fn signs(source: &Source, sym: Sym, at: usize) -> (usize, usize)
@@ -39,7 +36,7 @@ fn signs(source: &Source, sym: Sym, at: usize) -> (usize, usize)
 
 // Reads a term of a level.
 #[cycle(terms)]
-pub(crate) fn read_level(source: &Source, room: u8, of: Level, at: usize) -> Read
+pub(crate) fn read_level(source: &Source, room: u8, of: Level, at: usize) -> Read<Option<Built>>
     ensures is { IfOk result (Gives source.now (level of room (ahead source.now at)) (term_given source.now.text.now)) }
     ensures left { IfOk result (Leaves (IsPlacedBuilt source.now.text.now) at) }
 {
@@ -59,7 +56,7 @@ pub(crate) fn read_level(source: &Source, room: u8, of: Level, at: usize) -> Rea
 
 // Reads signs, and a term of a level after them.
 #[cycle(terms)]
-fn signed(source: &Source, room: u8, part: Level, sign: Sign, at: usize) -> Read
+fn signed(source: &Source, room: u8, part: Level, sign: Sign, at: usize) -> Read<Option<Built>>
     ensures is { IfOk result (Gives source.now (reading.signed depth_limit sign.sym sign.op (level part room) (ahead source.now at))
         (term_given source.now.text.now)) }
     ensures left { IfOk result (Leaves (IsPlacedBuilt source.now.text.now) at) }
@@ -74,7 +71,7 @@ fn signed(source: &Source, room: u8, part: Level, sign: Sign, at: usize) -> Read
 
 // Reads terms of a level with operators between them, joined to the left.
 #[cycle(terms)]
-fn left_joined(source: &Source, room: u8, part: Level, ops: Level, at: usize) -> Read
+fn left_joined(source: &Source, room: u8, part: Level, ops: Level, at: usize) -> Read<Option<Built>>
     ensures is { IfOk result (Gives source.now (reading.left_joined depth_limit (ops_of ops) (level part room) (ahead source.now at))
         (term_given source.now.text.now)) }
     ensures left { IfOk result (Leaves (IsPlacedBuilt source.now.text.now) at) }
@@ -96,7 +93,13 @@ fn left_joined(source: &Source, room: u8, part: Level, ops: Level, at: usize) ->
 
 // Reads terms of a level with operators between them, joined to the right.
 #[cycle(terms)]
-fn right_joined(source: &Source, room: u8, part: Level, ops: Level, at: usize) -> Read
+fn right_joined(
+    source: &Source,
+    room: u8,
+    part: Level,
+    ops: Level,
+    at: usize,
+) -> Read<Option<Built>>
     ensures is { IfOk result (Gives source.now
         (reading.right_chain depth_limit (ops_of ops) (level part room) (suc (length (ahead source.now at))) (ahead source.now at))
         (term_given source.now.text.now)) }
@@ -117,7 +120,7 @@ fn right_joined(source: &Source, room: u8, part: Level, ops: Level, at: usize) -
 
 // Reads a term of a level, and a second one after an operator.
 #[cycle(terms)]
-fn once(source: &Source, room: u8, part: Level, ops: Level, at: usize) -> Read
+fn once(source: &Source, room: u8, part: Level, ops: Level, at: usize) -> Read<Option<Built>>
     ensures is { IfOk result (Gives source.now
         (reading.once depth_limit (ops_of ops) (level part room) (level part room) (ahead source.now at))
         (term_given source.now.text.now)) }
@@ -138,7 +141,7 @@ fn once(source: &Source, room: u8, part: Level, ops: Level, at: usize) -> Read
 
 // Reads a number, a formula in parentheses, or a word with what belongs to it.
 #[cycle(terms)]
-fn atom(source: &Source, room: u8, at: usize) -> Read
+fn atom(source: &Source, room: u8, at: usize) -> Read<Option<Built>>
     ensures is { IfOk result (Gives source.now (reading.atom depth_limit (reading.formula depth_limit room) (ahead source.now at))
         (term_given source.now.text.now)) }
     ensures left { IfOk result (Leaves (IsPlacedBuilt source.now.text.now) at) }
@@ -159,7 +162,7 @@ fn atom(source: &Source, room: u8, at: usize) -> Read
 
 // Reads a formula and the right parenthesis after it.
 #[cycle(terms)]
-fn inside(source: &Source, room: u8, at: usize) -> Read
+fn inside(source: &Source, room: u8, at: usize) -> Read<Option<Built>>
     ensures is { IfOk result (Gives source.now (reading.closed symbols.RightParen (reading.formula depth_limit room (ahead source.now at)))
         (term_given source.now.text.now)) }
     ensures left { IfOk result (Leaves (IsPlacedBuilt source.now.text.now) at) }
@@ -178,7 +181,7 @@ fn inside(source: &Source, room: u8, at: usize) -> Read
 
 // Reads what belongs to a word: nothing, or its parts in parentheses.
 #[cycle(terms)]
-fn word(source: &Source, room: u8, name: Name, at: usize) -> Read
+fn word(source: &Source, room: u8, name: Name, at: usize) -> Read<Option<Built>>
     requires { IsPlaced source.now.text.now name }
     ensures is { IfOk result (Gives source.now
         (reading.word_atom depth_limit (reading.formula depth_limit room) (name_of source.now.text.now name) (ahead source.now at))
@@ -217,7 +220,7 @@ fn no_parts(alloc: Global) -> Parts
 
 // Reads formulas with commas between them, and the right parenthesis after them.
 #[cycle(terms)]
-fn inside_parts(source: &Source, room: u8, at: usize) -> Result<Option<(Parts, usize)>, Memory>
+fn inside_parts(source: &Source, room: u8, at: usize) -> Read<Parts>
     ensures is { IfOk result (GivesMade source.now reading.all_of
         (reading.closed symbols.RightParen (reading.list_at (reading.formula depth_limit room) symbols.Comma (ahead source.now at)))
         (terms_given source.now.text.now)) }
@@ -243,7 +246,7 @@ pub(crate) fn read_parts(
     of: Level,
     separator: Sym,
     at: usize,
-) -> Result<Option<(Parts, usize)>, Memory>
+) -> Read<Parts>
     ensures is { IfOk result (GivesMade source.now reading.all_of (reading.list_at (level of room) separator (ahead source.now at))
         (terms_given source.now.text.now)) }
     ensures left { IfOk result (Leaves (IsPlacedParts source.now.text.now) at) }
