@@ -32,7 +32,7 @@ pub enum SyntaxRefusal {
         /// The number of the declaration.
         decl: u32,
     },
-    /// Memory was wanted, and there was none.
+    /// Out of memory.
     Memory,
 }
 
@@ -82,8 +82,8 @@ fn unended(piece: &Source, decl: u32) -> SyntaxRefusal
 ///
 /// # Errors
 ///
-/// `Syntax` and `TooDeep` name the first declaration that is bad, and what is wrong with it; `Memory` comes
-/// where memory was wanted and there was none.
+/// `Syntax` and `TooDeep` name the first declaration that is bad, and say what is wrong with it; `Memory` says that
+/// it ran out of memory.
 pub fn parse(alloc: Global, text: &[u8], tokens: &List<Token>) -> Result<List<Decl>, SyntaxRefusal>
     requires { All (IsPiece text.now) tokens.now }
     ensures ok { IfOk result (λ kept. (ds : List Declaration)
