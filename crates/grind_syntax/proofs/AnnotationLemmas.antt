@@ -1,16 +1,14 @@
 -- Annotations, step by step.
-use Rattle.std.proofs.Common.{◌≡◌, ℕ, zero, suc, ◌<◌, true, false, List, [], ◌∷◌, ◌++◌, length, Option, Some, None, refl, sym, ◌∙◌, ap, arith, append_assoc, codes}
+use Rattle.std.proofs.Common.{◌≡◌, ℕ, zero, suc, ◌<◌, ◌≤◌, true, false, List, [], ◌∷◌, ◌++◌, length, Option, Some, None, refl, sym, ◌∙◌, ap, arith, append_assoc, codes}
 use Rattle.std.specs.Option.{option_map}
 use Rattle.std.specs.Str.{bytes_eq}
 use Rattle.grind_tokens.specs.declared.tokens.Sym.{Sym}
 use Rattle.grind_tokens.specs.declared.tokens.Sym.TheVariants as symbols
-use Rattle.grind_tokens.specs.declared.tokens.Token.{Token}
 use Rattle.grind_grammar.specs.Terms.{Term, Annotation, Left, Right, Hyps, Concl, Pattern}
-use Rattle.grind_grammar.specs.Lexemes.{Lexeme, Word, Number, Symbol, lexemes}
+use Rattle.grind_grammar.specs.Lexemes.{Lexeme, Word, Number, Symbol}
 use Rattle.grind_grammar.specs.Reading.{Read, Reader, read, read_map, read_then, symbol_at, word_at, closed, list_at, all_of, with_all, annot_of_symbol, annot_after_eq, annot_inside, annots, annots_up_to, annots_behind}
 use Rattle.grind_syntax.specs.Places.{NoWord, NoSymbol}
 use Rattle.grind_syntax.specs.Annotated.{with_annotation, patterns_of, AnnotsSoFar}
-use Rattle.grind_syntax.proofs.Fronts.{lexemes_length}
 use Rattle.grind_syntax.proofs.Items.{map_none, map_read, map_map, map_same, map_gave}
 
 -- words
@@ -92,7 +90,7 @@ inside_none item (Word w ∷ ls) h k = absurd (k w ls refl)
 inside_none item (Number value ∷ ls) h k = refl
 inside_none item (Symbol s ∷ ls) h k = absurd (h s ls refl)
 
--- annotations with one more behind them
+-- annotations with one more after them
 
 last_behind : (u : Annotation) (ts : Option (List Annotation)) (x : Option Annotation) → with_all (Some u) (with_annotation ts x) ≡ with_annotation (with_all (Some u) ts) x
 unfolding with_all
@@ -111,14 +109,14 @@ pub no_annots : all_of {A = Annotation} [] ≡ Some []
 unfolding all_of
 no_annots = refl
 
--- annotations, one behind the other
+-- annotations, one after the other
 
 module _ (item : Reader (Option Term)) where
-  pub annots_begin : (text : List ℕ) (tokens : List Token) → AnnotsSoFar item (lexemes text tokens) [] (lexemes text tokens) (length tokens)
+  pub annots_begin : (ls : List Lexeme) (count : ℕ) → count ≤ length ls → AnnotsSoFar item ls [] ls count
   unfolding annots
-  annots_begin text tokens = record {
-    fuel = suc (length (lexemes text tokens));
-    enough = rw (lexemes_length text tokens) (omega arith);
+  annots_begin ls count h = record {
+    fuel = suc (length ls);
+    enough = omega arith;
     same = sym (map_same (λ xs. [] ++ xs) (λ xs. refl) _);
   }
 

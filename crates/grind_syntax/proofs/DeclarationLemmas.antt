@@ -50,7 +50,7 @@ module _ (item : Reader (Option Term)) (ls : List Lexeme) where
   unfolding hyps hyps_from
   some_hyps e = rw e refl
 
--- a list that was read, with a symbol behind it or without one
+-- a list that was read, with a symbol after it or without one
 
 pub closed_gave : {A B : Type 0} (f : A → B) (s : _) (r : Read A) (y : B) (rest left : List Lexeme) → read_map f r ≡ read y rest →
     symbol_at s rest ≡ Some left → read_map f (closed s r) ≡ read y left

@@ -1,5 +1,5 @@
 -- Pieces and files.
-use Rattle.std.proofs.Common.{◌≡◌, ◌≢◌, ℕ, suc, ◌+◌, ◌<◌, ◌≤◌, Bool, true, false, List, [], ◌∷◌, ◌++◌, length, Option, Some, None, Ok, Err, All, refl, sym, ◌∙◌, ap, subst, arith, append_assoc}
+use Rattle.std.proofs.Common.{◌≡◌, ◌≢◌, ℕ, suc, ◌+◌, ◌<◌, ◌≤◌, Bool, true, false, List, [], ◌∷◌, ◌++◌, length, Option, Some, None, Ok, Err, All, refl, sym, ◌∙◌, ap, subst, arith, append_assoc, length-append}
 use Rattle.std.specs.Prelude.{map, nat_le, ◌&&◌, take, drop, Result}
 use Rattle.std.proofs.lemmas.Bool.Decides.{nat_tests}
 use Rattle.std.proofs.lemmas.List.{map-append}
@@ -17,25 +17,21 @@ use Rattle.grind_grammar.specs.Terms.{Declaration}
 use Rattle.grind_grammar.specs.Lexemes.{Lexeme, Symbol, lexemes, lexeme, lexeme_between}
 use Rattle.grind_grammar.specs.Keeps.{KeepsEach, KeepsTree, KeepsName, KeepsBound, KeepsAnnotation, KeepsDecl, KeepsDecls, name_of, term_of, IsPlaced, IsPlacedTree}
 use Rattle.grind_grammar.specs.Parentheses.{Within, open_after}
-use Rattle.grind_grammar.specs.Reading.{symbol_at, within, judged, whole, read, declaration}
+use Rattle.grind_grammar.specs.Reading.{within, judged, whole, read, declaration}
 use Rattle.grind_grammar.specs.Files as files
 use Rattle.grind_grammar.specs.Files.{depth_limit, Fault, Syntax, TooDeep, IsDeclaration, IsFaulty, IsFaultyEnd, end_too_many_open, unended, DeclarationsOf, nothing, declared, RefusedAt, here, at_end, later}
 use Rattle.grind_syntax.specs.Places.{Placed, bound_of, IsPlacedBound}
 use Rattle.grind_syntax.specs.Annotated.{annotation_of, IsPlacedAnnotation}
 use Rattle.grind_syntax.specs.KeptDeclarations.{declaration_kept, IsPlacedDeclaration}
-use Rattle.grind_syntax.specs.Pieces.{AreUndotted, BeginsWithDot, open_behind}
+use Rattle.grind_syntax.specs.Pieces.{AreUndotted, BeginsWithDot, IsCut, open_after_kind}
 use Rattle.grind_syntax.specs.declared.parse.SyntaxRefusal.{SyntaxRefusal}
 use Rattle.grind_syntax.specs.declared.parse.SyntaxRefusal.TheVariants as refusals
 use Rattle.grind_syntax.specs.Refusals.{FileSoFar, IsRefusal, IsVerdict, IsEndRefusal}
-use Rattle.grind_syntax.proofs.Fronts.{symbol_front, no_symbol_at_end, lexemes_length}
+use Rattle.grind_syntax.proofs.Fronts.{lexemes_length}
 
 -- the tokens of a text stand in it
 pub placed_pieces : (text : List ℕ) (tokens : List Token) → All (IsPiece text) tokens → Placed text tokens
-placed_pieces text [] h = tt
-placed_pieces text (token ∷ tokens) h =
-    let piece = All-head (IsPiece text) token tokens h in
-    let filled = piece.not_empty in
-    ((omega arith, piece.within), placed_pieces text tokens (All-tail (IsPiece text) token tokens h))
+placed_pieces text tokens h = λ k d within. let piece = h k d within in let filled = piece.not_empty in (omega arith, piece.within)
 
 -- parentheses
 
@@ -44,25 +40,25 @@ unfolding within
 no_token limit count text [] e = refl
 no_token limit count text (token ∷ tokens) e = absurd (omega arith)
 
-open_kind : (count : ℕ) (text : List ℕ) (start end : ℕ) (kind : TokenKind) → open_after count (lexeme_between text start end kind) ≡ open_behind count kind
+open_kind : (count : ℕ) (text : List ℕ) (start end : ℕ) (kind : TokenKind) → open_after count (lexeme_between text start end kind) ≡ open_after_kind count kind
 open_kind count text start end kinds.Word = refl
 open_kind count text start end (kinds.Number value) = refl
 open_kind count text start end (kinds.Symbol s) = refl
 
-pub token_fits : (limit count : ℕ) (text : List ℕ) (token : Token) (rest : List Token) → open_behind count token.kind ≤ limit →
-    within limit count (lexemes text (token ∷ rest)) ≡ within limit (open_behind count token.kind) (lexemes text rest)
+pub token_fits : (limit count : ℕ) (text : List ℕ) (token : Token) (rest : List Token) → open_after_kind count token.kind ≤ limit →
+    within limit count (lexemes text (token ∷ rest)) ≡ within limit (open_after_kind count token.kind) (lexemes text rest)
 unfolding within
 token_fits limit count text token rest h =
     let same = open_kind count text token.start token.end token.kind in
-    let e : nat_le (open_behind count token.kind) limit ≡ true = grind (arith, nat_tests) in
+    let e : nat_le (open_after_kind count token.kind) limit ≡ true = grind (arith, nat_tests) in
     rw same (rw e refl)
 
-pub token_over : (limit count : ℕ) (text : List ℕ) (token : Token) (rest : List Token) → limit < open_behind count token.kind →
+pub token_over : (limit count : ℕ) (text : List ℕ) (token : Token) (rest : List Token) → limit < open_after_kind count token.kind →
     within limit count (lexemes text (token ∷ rest)) ≡ false
 unfolding within
 token_over limit count text token rest h =
     let same = open_kind count text token.start token.end token.kind in
-    let e : nat_le (open_behind count token.kind) limit ≡ false = grind (arith, nat_tests) in
+    let e : nat_le (open_after_kind count token.kind) limit ≡ false = grind (arith, nat_tests) in
     rw same (rw e refl)
 
 and_true : (a b : Bool) → (a && b) ≡ true → (a ≡ true) × (b ≡ true)
@@ -118,9 +114,14 @@ undotted_piece text (t ∷ tokens) h =
     (no_dot text t.start t.end t.kind (All-head (λ t. t.kind ≢ kinds.Symbol symbols.Dot) t tokens h))
     (undotted_piece text tokens (All-tail (λ t. t.kind ≢ kinds.Symbol symbols.Dot) t tokens h))
 
+abbrev IsInside : List ℕ → Token → Type 0
+IsInside text token = (token.start ≤ token.end) × (token.end ≤ length text)
+
 placed_append : (text : List ℕ) (a b : List Token) → Placed text (a ++ b) → Placed text a × Placed text b
-placed_append text [] b h = (tt, h)
-placed_append text (t ∷ a) b h = let k = placed_append text a b h.1 in ((h.0, k.0), k.1)
+placed_append text [] b h = (All-nil (IsInside text), h)
+placed_append text (t ∷ a) b h =
+    let k = placed_append text a b (All-tail (IsInside text) t (a ++ b) h) in
+    (All-cons (IsInside text) t a (All-head (IsInside text) t (a ++ b) h) k.0, k.1)
 
 front_is : {A : Type 0} (front behind : List A) → take (length front) (front ++ behind) ≡ front
 front_is [] behind = refl
@@ -139,31 +140,34 @@ rest_is tokens piece behind count e n = rw (e, ← n) (behind_is piece behind)
 pub placed_piece : (text : List ℕ) (tokens piece behind : List Token) → tokens ≡ piece ++ behind → Placed text tokens → Placed text piece
 placed_piece text tokens piece behind e h = (placed_append text piece behind (subst (Placed text) e h)).0
 
-pub placed_rest : (text : List ℕ) (tokens piece behind : List Token) → tokens ≡ piece ++ behind → Placed text tokens → Placed text behind
-placed_rest text tokens piece behind e h = (placed_append text piece behind (subst (Placed text) e h)).1
-
 dot_lexeme : (text : List ℕ) (t : Token) → t.kind ≡ kinds.Symbol symbols.Dot → lexeme text t ≡ Symbol symbols.Dot
 dot_lexeme text t e = ap (lexeme_between text t.start t.end) e
 
 dot_first : (text : List ℕ) (t : Token) (behind : List Token) → t.kind ≡ kinds.Symbol symbols.Dot → lexemes text (t ∷ behind) ≡ Symbol symbols.Dot ∷ lexemes text behind
 dot_first text t behind e = ap (λ l. l ∷ lexemes text behind) (dot_lexeme text t e)
 
-pub no_dot_behind : (text : List ℕ) (behind : List Token) → BeginsWithDot behind → symbol_at symbols.Dot (lexemes text behind) ≡ None → behind ≡ []
-no_dot_behind text [] h e = refl
-no_dot_behind text (t ∷ behind) h e =
-    let f = symbol_front symbols.Dot (lexemes text (t ∷ behind)) (lexemes text behind) (dot_first text t behind h) in absurd cc
-
-pub dot_behind : (text : List ℕ) (behind : List Token) (left : List Lexeme) → BeginsWithDot behind → symbol_at symbols.Dot (lexemes text behind) ≡ Some left →
-    lexemes text behind ≡ Symbol symbols.Dot ∷ left
-dot_behind text [] left h e = let f = no_symbol_at_end symbols.Dot text [] refl in absurd cc
-dot_behind text (t ∷ behind) left h e =
-    let f = symbol_front symbols.Dot (lexemes text (t ∷ behind)) (lexemes text behind) (dot_first text t behind h) in
-    let g : lexemes text behind ≡ left = cc in
-    dot_first text t behind h ∙ ap (λ ls. Symbol symbols.Dot ∷ ls) g
-
-pub split_whole : (text : List ℕ) (tokens piece behind : List Token) (left : List Lexeme) → tokens ≡ piece ++ behind →
+split_whole : (text : List ℕ) (tokens piece behind : List Token) (left : List Lexeme) → tokens ≡ piece ++ behind →
     lexemes text behind ≡ Symbol symbols.Dot ∷ left → lexemes text tokens ≡ lexemes text piece ++ Symbol symbols.Dot ∷ left
 split_whole text tokens piece behind left e h = ap (lexemes text) e ∙ lexemes_append text piece behind ∙ ap (λ ls. lexemes text piece ++ ls) h
+
+pub nothing_left : {A : Type 0} (xs : List A) → length xs ≡ 0 → xs ≡ []
+nothing_left [] e = refl
+nothing_left (x ∷ xs) e = absurd (omega arith)
+
+pub cut_here : (tokens piece after left : List Token) (dot : Token) → tokens ≡ piece ++ after → BeginsWithDot after → after ≡ dot ∷ left → IsCut tokens piece left
+cut_here tokens piece after left dot e h f = record { dot = dot; is_dot = subst BeginsWithDot f h; whole = e ∙ ap (λ xs. piece ++ xs) f }
+
+pub cut_lexemes : (text : List ℕ) (tokens piece left : List Token) → IsCut tokens piece left →
+    lexemes text tokens ≡ lexemes text piece ++ Symbol symbols.Dot ∷ lexemes text left
+cut_lexemes text tokens piece left h = split_whole text tokens piece (h.dot ∷ left) (lexemes text left) h.whole (dot_first text h.dot left h.is_dot)
+
+pub cut_shorter : (tokens piece left : List Token) → IsCut tokens piece left → length left < length tokens
+cut_shorter tokens piece left h =
+    let counts = ap length h.whole ∙ length-append piece (h.dot ∷ left) in omega arith
+
+pub cut_placed : (text : List ℕ) (tokens piece left : List Token) → IsCut tokens piece left → Placed text tokens → Placed text left
+cut_placed text tokens piece left h k =
+    All-tail (IsInside text) h.dot left (placed_append text piece (h.dot ∷ left) (subst (Placed text) h.whole k)).1
 
 pub only_piece : (tokens piece behind : List Token) → tokens ≡ piece ++ behind → behind ≡ [] → piece ≡ tokens
 only_piece tokens piece behind e h = sym (e ∙ ap (λ xs. piece ++ xs) h ∙ all_of_it piece)

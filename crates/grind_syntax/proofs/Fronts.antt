@@ -1,12 +1,16 @@
 -- What stands at the front of lexemes, as the reading function says it.
 use Rattle.std.proofs.Common.{◌≡◌, ℕ, suc, Bool, true, false, List, [], ◌∷◌, length, Some, None, refl, sym, ◌∙◌, ap, rules, arith, eqb-true}
-use Rattle.std.specs.Prelude.{if◌then◌else◌, nat_eq}
+use Rattle.std.specs.Prelude.{if◌then◌else◌, nat_eq, ◌+◌, ◌<◌, ◌≤◌, drop, get_or}
 use Rattle.grind_tokens.specs.declared.tokens.Sym.{Sym}
 use Rattle.grind_tokens.specs.declared.tokens.Sym.TheVariants as symbols
 use Rattle.grind_tokens.specs.declared.tokens.Token.{Token}
 use Rattle.grind_grammar.specs.Lexemes.{Lexeme, Word, Number, Symbol, lexemes}
 use Rattle.grind_grammar.specs.Reading.{read, symbol_number, is_symbol, symbol_at, is_name, is_sort, name_at, sort_at}
+use Rattle.std.proofs.lemmas.List.{length-drop}
+use Rattle.std.proofs.Common.{drop-cons}
+use Rattle.grind_syntax.specs.declared.source.Source.{Source}
 use Rattle.grind_syntax.specs.Places.{NoWord}
+use Rattle.grind_syntax.specs.Sources.{ahead, count_ahead}
 
 -- symbols have numbers of their own
 
@@ -51,6 +55,17 @@ no_symbol_front s (Symbol t ∷ ls) h =
 pub lexemes_length : (text : List ℕ) (tokens : List Token) → length (lexemes text tokens) ≡ length tokens
 lexemes_length text [] = refl
 lexemes_length text (token ∷ tokens) = ap suc (lexemes_length text tokens)
+
+-- places
+
+pub length_ahead : (source : Source) (at : ℕ) → length (ahead source at) ≡ count_ahead source at
+length_ahead source at = lexemes_length source.text.now (drop at source.tokens.now) ∙ length-drop at source.tokens.now
+
+pub ahead_enough : (source : Source) (at : ℕ) → count_ahead source at ≤ length (ahead source at)
+ahead_enough source at = let same = length_ahead source at in omega arith
+
+pub token_here : (tokens : List Token) (at next : ℕ) (d : Token) → at < length tokens → next ≡ at + 1 → drop at tokens ≡ get_or tokens at d ∷ drop next tokens
+token_here tokens at next d h e = let same : next ≡ suc at = omega arith in rw same (drop-cons tokens at d h)
 
 -- names
 

@@ -1,32 +1,35 @@
 -- Readings put together, and items with a separator between them.
-use Rattle.std.proofs.Common.{◌≡◌, ℕ, zero, suc, ◌<◌, List, [], ◌∷◌, ◌++◌, length, Some, None, refl, sym, ◌∙◌, ap, arith, append_assoc}
+use Rattle.std.proofs.Common.{◌≡◌, ℕ, zero, suc, ◌<◌, ◌≤◌, List, [], ◌∷◌, ◌++◌, length, Some, None, refl, sym, ◌∙◌, ap, arith, append_assoc}
 use Rattle.grind_tokens.specs.declared.tokens.Sym.{Sym}
 use Rattle.grind_tokens.specs.declared.tokens.Sym.TheVariants as symbols
-use Rattle.grind_tokens.specs.declared.tokens.Token.{Token}
-use Rattle.grind_grammar.specs.Lexemes.{Lexeme, lexemes}
+use Rattle.grind_grammar.specs.Lexemes.{Lexeme}
 use Rattle.grind_grammar.specs.Reading.{Read, Reader, read, read_map, read_then, symbol_at, closed, items, items_behind, list_at, in_parentheses, in_parentheses_from}
-use Rattle.grind_syntax.specs.Places.{Placed, Past, Behind, ItemsSoFar}
-use Rattle.grind_syntax.proofs.Fronts.{lexemes_length}
+use Rattle.grind_syntax.specs.declared.source.Source.{Source}
+use Rattle.grind_syntax.specs.Places.{ItemsSoFar}
+use Rattle.grind_syntax.specs.Sources.{IsPast, count_ahead}
 
--- tokens left
+-- places
 
-pub behind_all : (text : List ℕ) (tokens : List Token) → Placed text tokens → Behind text tokens tokens
-behind_all text tokens h = record { no_more = omega arith; placed = h }
+pub reach_past : (source : Source) (a b c : ℕ) → a ≤ b → IsPast source b c → a ≤ c
+reach_past source a b c h k = let later = k.1 in omega arith
 
-pub behind_past : (text : List ℕ) (a b c : List Token) → Behind text a b → Past text b c → Behind text a c
-behind_past text a b c h k = record { no_more = omega arith; placed = k.placed }
+pub reach_on : (source : Source) (a b c : ℕ) → a ≤ b → b ≤ c → a ≤ c
+reach_on source a b c h k = omega arith
 
-pub past_behind : (text : List ℕ) (a b c : List Token) → Past text a b → Behind text b c → Behind text a c
-past_behind text a b c h k = record { no_more = omega arith; placed = k.placed }
+pub reach_then_past : (source : Source) (a b c : ℕ) → a ≤ b → IsPast source b c → IsPast source a c
+reach_then_past source a b c h k = let within = k.0 in let later = k.1 in (omega arith, omega arith)
 
-pub behind_then_past : (text : List ℕ) (a b c : List Token) → Behind text a b → Past text b c → Past text a c
-behind_then_past text a b c h k = record { fewer = omega arith; placed = k.placed }
+pub past_then_reach : (source : Source) (a b c : ℕ) → IsPast source a b → b ≤ c → IsPast source a c
+past_then_reach source a b c h k = let later = h.1 in (h.0, omega arith)
 
-pub behind_on : (text : List ℕ) (a b c : List Token) → Behind text a b → Behind text b c → Behind text a c
-behind_on text a b c h k = record { no_more = omega arith; placed = k.placed }
+pub past_is_reach : (source : Source) (a b : ℕ) → IsPast source a b → a ≤ b
+past_is_reach source a b h = let later = h.1 in omega arith
 
-pub past_on : (text : List ℕ) (a b c : List Token) → Past text a b → Past text b c → Past text a c
-past_on text a b c h k = record { fewer = omega arith; placed = k.placed }
+pub past_on : (source : Source) (a b c : ℕ) → IsPast source a b → IsPast source b c → IsPast source a c
+past_on source a b c h k = past_then_reach source a b c h (past_is_reach source b c k)
+
+pub fewer_ahead : (source : Source) (a b : ℕ) → IsPast source a b → count_ahead source b < count_ahead source a
+fewer_ahead source a b h = let within = h.0 in let later = h.1 in omega arith
 
 -- readings
 
@@ -85,11 +88,11 @@ closed_read s r x rest left e h = rw e (rw h refl)
 -- items with a separator between them
 
 module _ {A : Type 0} (item : Reader A) (separator : Sym) where
-  pub items_begin : (text : List ℕ) (tokens : List Token) → ItemsSoFar item separator (lexemes text tokens) [] (lexemes text tokens) (length tokens)
+  pub items_begin : (ls : List Lexeme) (count : ℕ) → count ≤ length ls → ItemsSoFar item separator ls [] ls count
   unfolding list_at
-  items_begin text tokens = record {
-    fuel = suc (length (lexemes text tokens));
-    enough = rw (lexemes_length text tokens) (omega arith);
+  items_begin ls count h = record {
+    fuel = suc (length ls);
+    enough = omega arith;
     same = sym (map_same (λ xs. [] ++ xs) (λ xs. refl) _);
   }
 

@@ -1,15 +1,14 @@
 -- The levels of terms, step by step.
-use Rattle.std.proofs.Common.{◌≡◌, ℕ, ℤ, zero, suc, ◌+◌, ◌-◌, ◌<◌, Bool, true, false, List, [], ◌∷◌, ◌++◌, length, Option, Some, None, refl, sym, ◌∙◌, ap, arith, codes}
+use Rattle.std.proofs.Common.{◌≡◌, ℕ, ℤ, zero, suc, ◌+◌, ◌-◌, ◌<◌, ◌≤◌, Bool, true, false, List, [], ◌∷◌, ◌++◌, length, Option, Some, None, refl, sym, ◌∙◌, ap, arith, codes}
 use Rattle.std.specs.Prelude.{if◌then◌else◌}
 use Rattle.std.specs.Str.{bytes_eq}
 use Rattle.grind_tokens.specs.declared.tokens.Sym.{Sym}
 use Rattle.grind_tokens.specs.declared.tokens.Sym.TheVariants as symbols
-use Rattle.grind_tokens.specs.declared.tokens.Token.{Token}
 use Rattle.grind_grammar.specs.declared.syntax.Unary.{Unary}
 use Rattle.grind_grammar.specs.declared.syntax.Binary.{Binary}
 use Rattle.grind_grammar.specs.Terms as terms
 use Rattle.grind_grammar.specs.Terms.{Term}
-use Rattle.grind_grammar.specs.Lexemes.{Lexeme, Word, Number, Symbol, lexemes}
+use Rattle.grind_grammar.specs.Lexemes.{Lexeme, Word, Number, Symbol}
 use Rattle.grind_grammar.specs.Reading as reading
 use Rattle.grind_grammar.specs.Reading.{Read, Reader, read, read_map, read_then, symbol_at, is_symbol, signed, one, two, op_at, left_joined, left_chain, left_behind, right_chain, once, joined_behind, closed, list_at, items, fit, applied, all_of, word_atom, parts_behind, is_name, formula}
 use Rattle.grind_grammar.specs.Files.{depth_limit}
@@ -17,10 +16,9 @@ use Rattle.grind_syntax.specs.declared.sides.Side.{Side}
 use Rattle.grind_syntax.specs.declared.built.Built.{Built}
 use Rattle.grind_syntax.specs.declared.parts.Parts.{Parts}
 use Rattle.grind_syntax.specs.declared.levels.Level.TheVariants as levels
-use Rattle.grind_syntax.specs.Places.{NoWord, NoNumber, Past, Behind}
+use Rattle.grind_syntax.specs.Places.{NoWord, NoNumber}
 use Rattle.grind_syntax.specs.Levels.{level, level_over}
 use Rattle.grind_syntax.specs.Built.{term_given, terms_given, with_last, one_times, sides_joined, LeftSoFar, RightSoFar}
-use Rattle.grind_syntax.proofs.Fronts.{lexemes_length}
 use Rattle.grind_syntax.proofs.Items.{then_none, then_read, map_none, map_read, map_map, map_same, map_gave, closed_open, closed_read}
 use Rattle.grind_syntax.proofs.TreeLemmas.{last_side, all_last}
 
@@ -78,13 +76,13 @@ module _ (limit : ℕ) (ops : Sym → Option Binary) (part : Reader (Option Term
   unfolding left_joined
   left_none all e = then_none _ (part all) e
 
-  pub left_begin : (text : List ℕ) (all : List Lexeme) (a : Option Term) (tokens : List Token) → part all ≡ read a (lexemes text tokens) →
-      LeftSoFar limit ops part all a (lexemes text tokens) (length tokens)
+  pub left_begin : (all : List Lexeme) (a : Option Term) (ls : List Lexeme) (count : ℕ) → part all ≡ read a ls → count ≤ length ls →
+      LeftSoFar limit ops part all a ls count
   unfolding left_joined
-  left_begin text all a tokens e = record {
-    fuel = suc (length (lexemes text tokens));
-    enough = rw (lexemes_length text tokens) (omega arith);
-    same = then_read (λ a rest. left_chain limit ops part (suc (length rest)) a rest) (part all) a (lexemes text tokens) e;
+  left_begin all a ls count e h = record {
+    fuel = suc (length ls);
+    enough = omega arith;
+    same = then_read (λ a rest. left_chain limit ops part (suc (length rest)) a rest) (part all) a ls e;
   }
 
   chain_end : (fuel : ℕ) (made : Option Term) (rest : List Lexeme) → op_at ops rest ≡ None → left_chain limit ops part (suc fuel) made rest ≡ read made rest
@@ -155,11 +153,11 @@ module _ (limit : ℕ) (ops : Sym → Option Binary) (first second : Reader (Opt
 -- operators that associate to the right
 
 module _ (limit : ℕ) (ops : Sym → Option Binary) (part : Reader (Option Term)) (text : List ℕ) where
-  pub right_begin : (tokens : List Token) → RightSoFar limit ops part text (lexemes text tokens) [] (lexemes text tokens) (length tokens)
+  pub right_begin : (ls : List Lexeme) (count : ℕ) → count ≤ length ls → RightSoFar limit ops part text ls [] ls count
   unfolding sides_joined
-  right_begin tokens = record {
-    fuel = suc (length (lexemes text tokens));
-    enough = rw (lexemes_length text tokens) (omega arith);
+  right_begin ls count h = record {
+    fuel = suc (length ls);
+    enough = omega arith;
     same = sym (map_same (λ t. t) (λ t. refl) _);
   }
 
@@ -300,7 +298,7 @@ unfolding formula level_over
 formula_is zero h = absurd (h refl)
 formula_is (suc room) h = let e : suc room - 1 ≡ room = omega arith in rw e refl
 
--- parts with a right parenthesis behind them, or without one
+-- parts with a right parenthesis after them, or without one
 
 pub parts_open : (r : Read (List (Option Term))) (ts : Option (List Term)) (rest : List Lexeme) → read_map all_of r ≡ read ts rest →
     symbol_at symbols.RightParen rest ≡ None → closed symbols.RightParen r ≡ None
@@ -319,11 +317,3 @@ all_none = refl
 pub more_given : (text : List ℕ) (parts more : Parts) (part : Option Built) (done : List (Option Term)) → terms_given text parts ≡ all_of done →
     terms_given text more ≡ with_last (terms_given text parts) (term_given text part) → terms_given text more ≡ all_of (done ++ term_given text part ∷ [])
 more_given text parts more part done h e = e ∙ ap (λ ts. with_last ts (term_given text part)) h ∙ sym (all_last done (term_given text part))
-
--- tokens left
-
-pub past_is_behind : (text : List ℕ) (tokens left : List Token) → Past text tokens left → Behind text tokens left
-past_is_behind text tokens left h = record { no_more = omega arith; placed = h.placed }
-
-pub past_then_behind : (text : List ℕ) (a b c : List Token) → Past text a b → Behind text b c → Past text a c
-past_then_behind text a b c h k = record { fewer = omega arith; placed = k.placed }

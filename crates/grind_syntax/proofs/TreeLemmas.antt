@@ -93,7 +93,7 @@ last_behind u None x = refl
 last_behind u (Some ts) None = refl
 last_behind u (Some ts) (Some t) = refl
 
--- terms with one more behind them
+-- terms with one more after them
 pub all_last : (xs : List (Option Term)) (x : Option Term) → all_of (xs ++ x ∷ []) ≡ with_last (all_of xs) x
 unfolding all_of with_all
 all_last [] None = refl

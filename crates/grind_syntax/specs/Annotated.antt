@@ -42,7 +42,7 @@ abbrev pub ArePlacedAnnots : List ℕ → Option (List Annot) → Type 0
 ArePlacedAnnots text None = Unit {0}
 ArePlacedAnnots text (Some annots) = All (IsPlacedAnnotation text) annots
 
--- one more behind those that are there
+-- one more after those that are there
 abbrev pub with_annotation : Option (List Annotation) → Option Annotation → Option (List Annotation)
 with_annotation None x = None
 with_annotation (Some xs) None = None

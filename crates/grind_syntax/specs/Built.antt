@@ -29,7 +29,7 @@ terms_given text parts = if parts.complete then Some (map (term_of text) parts.t
 abbrev pub IsPlacedParts : List ℕ → Parts → Type 0
 IsPlacedParts text parts = All (IsPlacedTree text) parts.trees.items
 
--- one more term behind those that are there
+-- one more term after those that are there
 abbrev pub with_last : Option (List Term) → Option Term → Option (List Term)
 with_last None t = None
 with_last (Some ts) None = None
@@ -40,7 +40,7 @@ unfoldable pub one_times : ℕ → Unary → ℕ → Option Term → Option Term
 one_times limit op zero t = t
 one_times limit op (suc n) t = one limit op (one_times limit op n t)
 
--- the sides of right-associative operators, with the last one behind them
+-- the sides of right-associative operators, with the last one after them
 unfoldable pub sides_joined : ℕ → List ℕ → List Side → Option Term → Option Term
 sides_joined limit text [] t = t
 sides_joined limit text (s ∷ sides) t = two limit s.op (term_given text s.side) (sides_joined limit text sides t)

@@ -1,4 +1,5 @@
 pub mod Places
+pub mod Sources
 pub mod Depth
 pub mod Levels
 pub mod Built

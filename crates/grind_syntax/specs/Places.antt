@@ -1,31 +1,16 @@
--- Which tokens are left behind what a reader of the code read.
-use Rattle.std.specs.Prelude.{◌≡◌, ℕ, ℤ, ◌≤◌, ◌<◌, List, [], ◌∷◌, ◌++◌, length}
+-- Tokens that stand in their text, and what stands first among lexemes.
+use Rattle.std.specs.Prelude.{◌≡◌, ℕ, ℤ, ◌≤◌, ◌<◌, List, ◌∷◌, ◌++◌, All, length}
 use Rattle.grind_tokens.specs.declared.tokens.Sym.{Sym}
 use Rattle.grind_tokens.specs.declared.tokens.Token.{Token}
-use Rattle.grind_grammar.specs.Lexemes.{Lexeme, Word, Number, Symbol, lexemes}
-use Rattle.grind_grammar.specs.Reading.{Read, Reader, read, read_map, items, list_at}
+use Rattle.grind_grammar.specs.Lexemes.{Lexeme, Word, Number, Symbol}
+use Rattle.grind_grammar.specs.Reading.{Reader, read_map, items, list_at}
 use Rattle.grind_grammar.specs.declared.syntax.Binder.{Binder}
 use Rattle.grind_grammar.specs.Terms.{Bound}
 use Rattle.grind_grammar.specs.Keeps.{IsPlaced, name_of}
 
 -- each token stands in the text
 abbrev pub Placed : List ℕ → List Token → Type 0
-Placed text [] = Unit {0}
-Placed text (token ∷ tokens) = ((token.start ≤ token.end) × (token.end ≤ length text)) × Placed text tokens
-
--- fewer tokens are left, and they stand in the text
-pub record Past (text : List ℕ) (tokens left : List Token) : Type 0 where
-  pub fewer : length left < length tokens
-  pub placed : Placed text left
-
--- no more tokens are left, and they stand in the text
-pub record Behind (text : List ℕ) (tokens left : List Token) : Type 0 where
-  pub no_more : length left ≤ length tokens
-  pub placed : Placed text left
-
--- the reading function gives this value, and the lexemes of these tokens are left
-abbrev pub Gives : {A : Type 0} → List ℕ → Read A → A → List Token → Type 0
-Gives text reading value left = reading ≡ read value (lexemes text left)
+Placed text tokens = All (λ (token : Token). (token.start ≤ token.end) × (token.end ≤ length text)) tokens
 
 -- no symbol stands first
 abbrev pub NoSymbol : List Lexeme → Type 0
@@ -47,7 +32,7 @@ bound_of text binder = record { name = name_of text binder.name; sort = name_of 
 abbrev pub IsPlacedBound : List ℕ → Binder → Type 0
 IsPlacedBound text binder = IsPlaced text binder.name × IsPlaced text binder.sort
 
--- the items that are read before the rest: what a list of items gives is these, and behind them what the rest gives
+-- the items that are read before the rest: what a list of items gives is these, followed by what the rest gives
 pub record ItemsSoFar {A : Type 0} (item : Reader A) (separator : Sym) (all : List Lexeme) (done : List A) (rest : List Lexeme) (count : ℕ) : Type 0 where
   pub fuel : ℕ
   pub enough : count < fuel

@@ -1,79 +1,64 @@
-//! The annotations of a theorem.
-ghost use Rattle.std.specs.Prelude.{◌≡◌, ℕ, List, Some, None, codes, MatchOption, IfOk, IfSome};
+//! The annotations of a theorem. One with a term deeper than the limit is judged, and not kept.
+ghost use Rattle.std.specs.Prelude.{◌≡◌, ℕ, List, Some, None, MatchOption, IfOk, IfSome};
 ghost use Rattle.grind_tokens.specs.declared.tokens.Sym.TheVariants as symbols;
-ghost use Rattle.grind_grammar.specs.Lexemes.{lexemes};
 ghost use Rattle.grind_grammar.specs.Reading as reading;
-ghost use Rattle.grind_syntax.specs.Places.{Placed, Behind, Past, Gives};
+ghost use Rattle.grind_syntax.specs.Sources.{ahead, IsPast, Gives, GivesMade, Leaves};
 ghost use Rattle.grind_syntax.specs.Levels.{level};
 ghost use Rattle.grind_syntax.specs.declared.levels.Level.TheVariants as levels;
-ghost use Rattle.grind_syntax.specs.Annotated.{annotation_given, IsPlacedAnnot, annotations_given, ArePlacedAnnots, with_annotation, patterns_of};
+ghost use Rattle.grind_syntax.specs.Annotated.{annotation_given, IsPlacedAnnotation, IsPlacedAnnot, annotations_given, ArePlacedAnnots, with_annotation, patterns_of};
 
 use crate::levels::Level;
 use crate::names::{any_symbol_at, bytes_of, is_same, symbol_at, word_at};
+use crate::source::{Read, Source};
 use crate::terms::read_parts;
 use crate::trees::listed;
 use grind_grammar::Annot;
 use grind_outside::{List, Memory};
-use grind_tokens::tokens::{Sym, Token};
-use std::alloc::Global;
+use grind_tokens::tokens::Sym;
 
-// What a reader of an annotation gives: the annotation, if its terms are no deeper than the limit, and the tokens that are left.
-type Read<'a> = Result<Option<(Option<Annot>, &'a [Token])>, Memory>;
-
-// The tokens behind a word that stands at the front.
-fn keyword_at<'a>(text: &[u8], tokens: &'a [Token], keyword: &[u8]) -> Option<&'a [Token]>
-    requires { Placed text.now tokens.now }
-    ensures is { MatchOption result (reading.word_at keyword.now (lexemes text.now tokens.now) ≡ None)
-        (λ left. reading.word_at keyword.now (lexemes text.now tokens.now) ≡ Some (lexemes text.now left.now)) }
-    ensures left { IfSome result (λ left. Past text.now tokens.now left.now) }
+// The place after a word that stands here.
+fn keyword_at(source: &Source, at: usize, keyword: &[u8]) -> Option<usize>
+    ensures is { MatchOption result (reading.word_at keyword.now (ahead source.now at) ≡ None)
+        (λ left. reading.word_at keyword.now (ahead source.now at) ≡ Some (ahead source.now left)) }
+    ensures left { IfSome result (λ left. IsPast source.now at left) }
 {
-    let Some((name, left)) = word_at(text, tokens) else {
-        return None;
-    };
-    if is_same(bytes_of(text, name), keyword) {
+    let (name, left) = word_at(source, at)?;
+    if is_same(bytes_of(source.text, name), keyword) {
         return Some(left);
     }
     None
 }
 
-// Reads what stands behind the word of patterns.
-fn patterns<'a>(alloc: Global, text: &[u8], room: u8, tokens: &'a [Token]) -> Read<'a>
-    requires { Placed text.now tokens.now }
-    ensures is { IfOk result (λ answer. MatchOption answer
-        (reading.list_at (level levels.Sum room) symbols.Comma (lexemes text.now tokens.now) ≡ None)
-        (λ found. Gives text.now (reading.read_map patterns_of (reading.list_at (level levels.Sum room) symbols.Comma (lexemes text.now tokens.now)))
-        (annotation_given text.now found.0) found.1.now)) }
-    ensures left { IfOk result (λ answer. IfSome answer (λ found. IsPlacedAnnot text.now found.0 × Behind text.now tokens.now found.1.now)) }
+// Reads what stands after the word of patterns.
+fn patterns(source: &Source, room: u8, at: usize) -> Read<Option<Annot>>
+    ensures is { IfOk result (GivesMade source.now patterns_of (reading.list_at (level levels.Sum room) symbols.Comma (ahead source.now at))
+        (annotation_given source.now.text.now)) }
+    ensures left { IfOk result (Leaves (IsPlacedAnnot source.now.text.now) at) }
 {
-    let Some((parts, left)) = read_parts(alloc, text, room, Level::Sum, Sym::Comma, tokens)? else {
+    let Some((parts, left)) = read_parts(source, room, Level::Sum, Sym::Comma, at)? else {
         return Ok(None);
     };
-    let Some(trees) = listed(alloc, parts)? else {
+    let Some(trees) = listed(source.alloc, parts)? else {
         return Ok(Some((None, left)));
     };
     Ok(Some((Some(Annot::Pattern(trees)), left)))
 }
 
 // Reads an annotation that begins with a symbol.
-fn short<'a>(text: &[u8], sym: Sym, tokens: &'a [Token]) -> Option<(Annot, &'a [Token])>
-    requires { Placed text.now tokens.now }
-    ensures is { MatchOption result
-        (reading.annot_of_symbol sym (lexemes text.now tokens.now) ≡ None)
-        (λ found. Gives text.now (reading.annot_of_symbol sym (lexemes text.now tokens.now)) (annotation_given text.now (Some found.0)) found.1.now) }
-    ensures left { IfSome result (λ found. IsPlacedAnnot text.now (Some found.0) × Behind text.now tokens.now found.1.now) }
+fn short(source: &Source, sym: Sym, at: usize) -> Option<(Annot, usize)>
+    ensures is { Gives source.now (reading.annot_of_symbol sym (ahead source.now at)) (λ annot. annotation_given source.now.text.now (Some annot)) result }
+    ensures left { Leaves (IsPlacedAnnotation source.now.text.now) at result }
 {
     match sym {
         Sym::Eq => {
-            let Some(left) = keyword_at(text, tokens, b"_".as_slice()) else {
-                return Some((Annot::Left, tokens));
+            let Some(left) = keyword_at(source, at, b"_".as_slice()) else {
+                return Some((Annot::Left, at));
             };
             Some((Annot::Right, left))
         }
-        Sym::Arrow => Some((Annot::Hyps, tokens)),
+        Sym::Arrow => Some((Annot::Hyps, at)),
         Sym::Lt => {
-            let Some(left) = symbol_at(text, tokens, Sym::Minus) else {
-                return None;
-            };
+            let left = symbol_at(source, at, Sym::Minus)?;
             Some((Annot::Concl, left))
         }
         _ => None,
@@ -81,50 +66,46 @@ fn short<'a>(text: &[u8], sym: Sym, tokens: &'a [Token]) -> Option<(Annot, &'a [
 }
 
 // Reads an annotation without its brackets.
-fn inside<'a>(alloc: Global, text: &[u8], room: u8, tokens: &'a [Token]) -> Read<'a>
-    requires { Placed text.now tokens.now }
-    ensures is { IfOk result (λ answer. MatchOption answer
-        (reading.annot_inside (level levels.Sum room) (lexemes text.now tokens.now) ≡ None)
-        (λ found. Gives text.now (reading.annot_inside (level levels.Sum room) (lexemes text.now tokens.now)) (annotation_given text.now found.0) found.1.now)) }
-    ensures left { IfOk result (λ answer. IfSome answer (λ found. IsPlacedAnnot text.now found.0 × Behind text.now tokens.now found.1.now)) }
+fn inside(source: &Source, room: u8, at: usize) -> Read<Option<Annot>>
+    ensures is { IfOk result (Gives source.now (reading.annot_inside (level levels.Sum room) (ahead source.now at))
+        (annotation_given source.now.text.now)) }
+    ensures left { IfOk result (Leaves (IsPlacedAnnot source.now.text.now) at) }
 {
-    if let Some((sym, behind)) = any_symbol_at(text, tokens) {
-        let Some((annot, left)) = short(text, sym, behind) else {
+    if let Some((sym, after)) = any_symbol_at(source, at) {
+        let Some((annot, left)) = short(source, sym, after) else {
             return Ok(None);
         };
         return Ok(Some((Some(annot), left)));
     }
-    let Some((name, behind)) = word_at(text, tokens) else {
+    let Some((name, after)) = word_at(source, at) else {
         return Ok(None);
     };
-    if !is_same(bytes_of(text, name), b"pattern".as_slice()) {
+    if !is_same(bytes_of(source.text, name), b"pattern".as_slice()) {
         return Ok(None);
     }
-    let Some((annot, left)) = patterns(alloc, text, room, behind)? else {
+    let Some((annot, left)) = patterns(source, room, after)? else {
         return Ok(None);
     };
     Ok(Some((annot, left)))
 }
 
-// Reads an annotation behind its left bracket, and the right bracket.
-fn bracketed<'a>(alloc: Global, text: &[u8], room: u8, tokens: &'a [Token]) -> Read<'a>
-    requires { Placed text.now tokens.now }
-    ensures is { IfOk result (λ answer. MatchOption answer
-        (reading.closed symbols.RightSquare (reading.annot_inside (level levels.Sum room) (lexemes text.now tokens.now)) ≡ None)
-        (λ found. Gives text.now (reading.closed symbols.RightSquare (reading.annot_inside (level levels.Sum room) (lexemes text.now tokens.now)))
-        (annotation_given text.now found.0) found.1.now)) }
-    ensures left { IfOk result (λ answer. IfSome answer (λ found. IsPlacedAnnot text.now found.0 × Behind text.now tokens.now found.1.now)) }
+// Reads an annotation after its left bracket, and the right bracket.
+fn bracketed(source: &Source, room: u8, at: usize) -> Read<Option<Annot>>
+    ensures is { IfOk result (Gives source.now
+        (reading.closed symbols.RightSquare (reading.annot_inside (level levels.Sum room) (ahead source.now at)))
+        (annotation_given source.now.text.now)) }
+    ensures left { IfOk result (Leaves (IsPlacedAnnot source.now.text.now) at) }
 {
-    let Some((annot, behind)) = inside(alloc, text, room, tokens)? else {
+    let Some((annot, after)) = inside(source, room, at)? else {
         return Ok(None);
     };
-    let Some(left) = symbol_at(text, behind, Sym::RightSquare) else {
+    let Some(left) = symbol_at(source, after, Sym::RightSquare) else {
         return Ok(None);
     };
     Ok(Some((annot, left)))
 }
 
-// The annotations with one more behind them, if it is kept.
+// The annotations with one more after them, if it is kept.
 fn with_annot(
     annots: Option<List<Annot>>,
     annot: Option<Annot>,
@@ -145,23 +126,15 @@ fn with_annot(
 }
 
 // Reads annotations, as many as there are.
-pub(crate) fn annotations<'a>(
-    alloc: Global,
-    text: &[u8],
-    room: u8,
-    tokens: &'a [Token],
-) -> Result<Option<(Option<List<Annot>>, &'a [Token])>, Memory>
-    requires { Placed text.now tokens.now }
-    ensures is { IfOk result (λ answer. MatchOption answer
-        (reading.annots (level levels.Sum room) (lexemes text.now tokens.now) ≡ None)
-        (λ found. Gives text.now (reading.read_map reading.all_of (reading.annots (level levels.Sum room) (lexemes text.now tokens.now)))
-        (annotations_given text.now found.0) found.1.now)) }
-    ensures left { IfOk result (λ answer. IfSome answer (λ found. ArePlacedAnnots text.now found.0 × Behind text.now tokens.now found.1.now)) }
+pub(crate) fn annotations(source: &Source, room: u8, at: usize) -> Read<Option<List<Annot>>>
+    ensures is { IfOk result (GivesMade source.now reading.all_of (reading.annots (level levels.Sum room) (ahead source.now at))
+        (annotations_given source.now.text.now)) }
+    ensures left { IfOk result (Leaves (ArePlacedAnnots source.now.text.now) at) }
 {
-    let mut annots = Some(List::new(alloc));
-    let mut rest = tokens;
-    while let Some(mid) = symbol_at(text, rest, Sym::LeftSquare) {
-        let Some((annot, left)) = bracketed(alloc, text, room, mid)? else {
+    let mut annots = Some(List::new(source.alloc));
+    let mut rest = at;
+    while let Some(mid) = symbol_at(source, rest, Sym::LeftSquare) {
+        let Some((annot, left)) = bracketed(source, room, mid)? else {
             return Ok(None);
         };
         annots = with_annot(annots, annot)?;

@@ -1,11 +1,9 @@
-//! Declarations, without the dot behind them.
-ghost use Rattle.std.specs.Prelude.{◌≡◌, ℕ, List, Some, None, codes, map, option_map, MatchOption, IfOk, IfSome};
-ghost use Rattle.grind_tokens.specs.declared.tokens.Sym.TheVariants as symbols;
-ghost use Rattle.grind_grammar.specs.Lexemes.{lexemes};
-ghost use Rattle.grind_grammar.specs.Keeps.{IsPlaced, name_of, term_of};
+//! Declarations, without the dot after them. One with a term deeper than the limit is judged, and not kept.
+ghost use Rattle.std.specs.Prelude.{map, IfOk};
+ghost use Rattle.grind_grammar.specs.Keeps.{IsPlaced, name_of};
 ghost use Rattle.grind_grammar.specs.Reading as reading;
 ghost use Rattle.grind_grammar.specs.Files.{depth_limit};
-ghost use Rattle.grind_syntax.specs.Places.{Placed, Behind, Gives};
+ghost use Rattle.grind_syntax.specs.Sources.{ahead, Gives, GivesMade, Leaves};
 ghost use Rattle.grind_syntax.specs.Levels.{level};
 ghost use Rattle.grind_syntax.specs.declared.levels.Level.TheVariants as levels;
 ghost use Rattle.grind_syntax.specs.Built.{AreTreesPlaced, trees_given};
@@ -16,32 +14,27 @@ use crate::kept::{goal_with, theorem_with};
 use crate::levels::Level;
 use crate::lists::{arguments, binders};
 use crate::names::{bytes_of, is_same, name_at, number_at, sort_at, symbol_at, word_at};
+use crate::source::{Read, Source};
 use crate::terms::{read_level, read_parts};
 use crate::trees::{DEPTH, listed};
 use grind_grammar::{Decl, Name, Tree};
-use grind_outside::{List, Memory};
-use grind_tokens::tokens::{Sym, Token};
-use std::alloc::Global;
+use grind_outside::List;
+use grind_tokens::tokens::Sym;
 
-// What a reader of a declaration gives: the declaration, if its trees are no deeper than the limit, and the tokens that are left.
-type Read<'a> = Result<Option<(Option<Decl>, &'a [Token])>, Memory>;
-
-// Reads what stands behind the name of a function.
-fn function<'a>(alloc: Global, text: &[u8], name: Name, tokens: &'a [Token]) -> Read<'a>
-    requires placed { Placed text.now tokens.now }
-    requires named { IsPlaced text.now name }
-    ensures is { IfOk result (λ answer. MatchOption answer
-        (reading.function_of (name_of text.now name) (lexemes text.now tokens.now) ≡ None)
-        (λ found. Gives text.now (reading.function_of (name_of text.now name) (lexemes text.now tokens.now)) (declaration_given text.now found.0) found.1.now)) }
-    ensures left { IfOk result (λ answer. IfSome answer (λ found. IsPlacedGiven text.now found.0 × Behind text.now tokens.now found.1.now)) }
+// Reads what stands after the name of a function.
+fn function(source: &Source, name: Name, at: usize) -> Read<Option<Decl>>
+    requires { IsPlaced source.now.text.now name }
+    ensures is { IfOk result (Gives source.now (reading.function_of (name_of source.now.text.now name) (ahead source.now at))
+        (declaration_given source.now.text.now)) }
+    ensures left { IfOk result (Leaves (IsPlacedGiven source.now.text.now) at) }
 {
-    let Some((args, behind)) = arguments(alloc, text, tokens)? else {
+    let Some((args, after)) = arguments(source, at)? else {
         return Ok(None);
     };
-    let Some(mid) = symbol_at(text, behind, Sym::Colon) else {
+    let Some(mid) = symbol_at(source, after, Sym::Colon) else {
         return Ok(None);
     };
-    let Some((sort, left)) = sort_at(text, mid) else {
+    let Some((sort, left)) = sort_at(source, mid) else {
         return Ok(None);
     };
     let decl = Decl::Fun {
@@ -52,139 +45,118 @@ fn function<'a>(alloc: Global, text: &[u8], name: Name, tokens: &'a [Token]) -> 
     Ok(Some((Some(decl), left)))
 }
 
-// Reads the hypotheses of a goal, and the turnstile behind them.
-fn hypotheses<'a>(
-    alloc: Global,
-    text: &[u8],
-    tokens: &'a [Token],
-) -> Result<Option<(Option<List<Tree>>, &'a [Token])>, Memory>
-    requires { Placed text.now tokens.now }
-    ensures is { IfOk result (λ answer. MatchOption answer
-        (reading.hyps (level levels.Formula depth_limit) (lexemes text.now tokens.now) ≡ None)
-        (λ found. Gives text.now (reading.read_map reading.all_of (reading.hyps (level levels.Formula depth_limit) (lexemes text.now tokens.now)))
-        (trees_given text.now found.0) found.1.now)) }
-    ensures left { IfOk result (λ answer. IfSome answer (λ found. AreTreesPlaced text.now found.0 × Behind text.now tokens.now found.1.now)) }
+// Reads the hypotheses of a goal, and the turnstile after them.
+fn hypotheses(source: &Source, at: usize) -> Read<Option<List<Tree>>>
+    ensures is { IfOk result (GivesMade source.now reading.all_of (reading.hyps (level levels.Formula depth_limit) (ahead source.now at))
+        (trees_given source.now.text.now)) }
+    ensures left { IfOk result (Leaves (AreTreesPlaced source.now.text.now) at) }
 {
-    if let Some(left) = symbol_at(text, tokens, Sym::Turnstile) {
-        return Ok(Some((Some(List::new(alloc)), left)));
+    if let Some(left) = symbol_at(source, at, Sym::Turnstile) {
+        return Ok(Some((Some(List::new(source.alloc)), left)));
     }
-    let Some((parts, behind)) = read_parts(
-        alloc,
-        text,
-        DEPTH,
-        Level::Formula,
-        Sym::Semicolon,
-        tokens,
-    )?
-    else {
+    let Some((parts, after)) = read_parts(source, DEPTH, Level::Formula, Sym::Semicolon, at)? else {
         return Ok(None);
     };
-    let Some(left) = symbol_at(text, behind, Sym::Turnstile) else {
+    let Some(left) = symbol_at(source, after, Sym::Turnstile) else {
         return Ok(None);
     };
-    let trees = listed(alloc, parts)?;
+    let trees = listed(source.alloc, parts)?;
     Ok(Some((trees, left)))
 }
 
-// Reads what stands behind the name of a theorem.
-fn theorem<'a>(alloc: Global, text: &[u8], name: Name, tokens: &'a [Token]) -> Read<'a>
-    requires placed { Placed text.now tokens.now }
-    requires named { IsPlaced text.now name }
-    ensures is { IfOk result (λ answer. MatchOption answer
-        (reading.theorem_of depth_limit depth_limit (name_of text.now name) (lexemes text.now tokens.now) ≡ None)
-        (λ found. Gives text.now (reading.theorem_of depth_limit depth_limit (name_of text.now name) (lexemes text.now tokens.now)) (declaration_given text.now found.0) found.1.now)) }
-    ensures left { IfOk result (λ answer. IfSome answer (λ found. IsPlacedGiven text.now found.0 × Behind text.now tokens.now found.1.now)) }
+// Reads what stands after the name of a theorem.
+fn theorem(source: &Source, name: Name, at: usize) -> Read<Option<Decl>>
+    requires { IsPlaced source.now.text.now name }
+    ensures is { IfOk result (Gives source.now
+        (reading.theorem_of depth_limit depth_limit (name_of source.now.text.now name) (ahead source.now at))
+        (declaration_given source.now.text.now)) }
+    ensures left { IfOk result (Leaves (IsPlacedGiven source.now.text.now) at) }
 {
-    let Some((bound, behind)) = binders(alloc, text, tokens)? else {
+    let Some((bound, after)) = binders(source, at)? else {
         return Ok(None);
     };
-    let Some((annots, rest)) = annotations(alloc, text, DEPTH, behind)? else {
+    let Some((annots, rest)) = annotations(source, DEPTH, after)? else {
         return Ok(None);
     };
-    let Some(mid) = symbol_at(text, rest, Sym::Colon) else {
+    let Some(mid) = symbol_at(source, rest, Sym::Colon) else {
         return Ok(None);
     };
-    let Some((body, left)) = read_level(alloc, text, DEPTH, Level::Formula, mid)? else {
+    let Some((body, left)) = read_level(source, DEPTH, Level::Formula, mid)? else {
         return Ok(None);
     };
     Ok(Some((theorem_with(name, bound, annots, body), left)))
 }
 
-// Reads what stands behind the name of a goal.
-fn goal<'a>(alloc: Global, text: &[u8], name: Name, tokens: &'a [Token]) -> Read<'a>
-    requires placed { Placed text.now tokens.now }
-    requires named { IsPlaced text.now name }
-    ensures is { IfOk result (λ answer. MatchOption answer
-        (reading.goal_of depth_limit depth_limit (name_of text.now name) (lexemes text.now tokens.now) ≡ None)
-        (λ found. Gives text.now (reading.goal_of depth_limit depth_limit (name_of text.now name) (lexemes text.now tokens.now)) (declaration_given text.now found.0) found.1.now)) }
-    ensures left { IfOk result (λ answer. IfSome answer (λ found. IsPlacedGiven text.now found.0 × Behind text.now tokens.now found.1.now)) }
+// Reads what stands after the name of a goal.
+fn goal(source: &Source, name: Name, at: usize) -> Read<Option<Decl>>
+    requires { IsPlaced source.now.text.now name }
+    ensures is { IfOk result (Gives source.now
+        (reading.goal_of depth_limit depth_limit (name_of source.now.text.now name) (ahead source.now at))
+        (declaration_given source.now.text.now)) }
+    ensures left { IfOk result (Leaves (IsPlacedGiven source.now.text.now) at) }
 {
-    let Some((bound, behind)) = binders(alloc, text, tokens)? else {
+    let Some((bound, after)) = binders(source, at)? else {
         return Ok(None);
     };
-    let Some(mid) = symbol_at(text, behind, Sym::Colon) else {
+    let Some(mid) = symbol_at(source, after, Sym::Colon) else {
         return Ok(None);
     };
-    let Some((hyps, rest)) = hypotheses(alloc, text, mid)? else {
+    let Some((hyps, rest)) = hypotheses(source, mid)? else {
         return Ok(None);
     };
-    let Some((show, left)) = read_level(alloc, text, DEPTH, Level::Formula, rest)? else {
+    let Some((show, left)) = read_level(source, DEPTH, Level::Formula, rest)? else {
         return Ok(None);
     };
     Ok(Some((goal_with(name, bound, hyps, show), left)))
 }
 
-// Reads what stands behind the word and the name of a declaration.
-fn named<'a>(alloc: Global, text: &[u8], keyword: Name, name: Name, tokens: &'a [Token]) -> Read<'a>
-    requires placed { Placed text.now tokens.now }
-    requires begun { IsPlaced text.now keyword }
-    requires named { IsPlaced text.now name }
-    ensures is { IfOk result (λ answer. MatchOption answer
-        (reading.declaration_of depth_limit depth_limit (name_of text.now keyword) (name_of text.now name) (lexemes text.now tokens.now) ≡ None)
-        (λ found. Gives text.now (reading.declaration_of depth_limit depth_limit (name_of text.now keyword) (name_of text.now name) (lexemes text.now tokens.now))
-        (declaration_given text.now found.0) found.1.now)) }
-    ensures left { IfOk result (λ answer. IfSome answer (λ found. IsPlacedGiven text.now found.0 × Behind text.now tokens.now found.1.now)) }
+// Reads what stands after the word and the name of a declaration.
+fn named(source: &Source, keyword: Name, name: Name, at: usize) -> Read<Option<Decl>>
+    requires begun { IsPlaced source.now.text.now keyword }
+    requires named { IsPlaced source.now.text.now name }
+    ensures is { IfOk result (Gives source.now
+        (reading.declaration_of depth_limit depth_limit (name_of source.now.text.now keyword) (name_of source.now.text.now name) (ahead source.now at))
+        (declaration_given source.now.text.now)) }
+    ensures left { IfOk result (Leaves (IsPlacedGiven source.now.text.now) at) }
 {
-    let word = bytes_of(text, keyword);
+    let word = bytes_of(source.text, keyword);
     if is_same(word, b"sort".as_slice()) {
-        return Ok(Some((Some(Decl::Sort { name }), tokens)));
+        return Ok(Some((Some(Decl::Sort { name }), at)));
     }
     if is_same(word, b"fun".as_slice()) {
-        let answer = function(alloc, text, name, tokens)?;
+        let answer = function(source, name, at)?;
         return Ok(answer);
     }
     if is_same(word, b"theorem".as_slice()) {
-        let answer = theorem(alloc, text, name, tokens)?;
+        let answer = theorem(source, name, at)?;
         return Ok(answer);
     }
     if is_same(word, b"goal".as_slice()) {
-        let answer = goal(alloc, text, name, tokens)?;
+        let answer = goal(source, name, at)?;
         return Ok(answer);
     }
     if !is_same(word, b"limit".as_slice()) {
         return Ok(None);
     }
-    let Some((value, left)) = number_at(text, tokens) else {
+    let Some((value, left)) = number_at(source, at) else {
         return Ok(None);
     };
     Ok(Some((Some(Decl::Limit { name, value }), left)))
 }
 
 // Reads a declaration.
-pub(crate) fn declaration<'a>(alloc: Global, text: &[u8], tokens: &'a [Token]) -> Read<'a>
-    requires { Placed text.now tokens.now }
-    ensures is { IfOk result (λ answer. MatchOption answer
-        (reading.declaration depth_limit depth_limit (lexemes text.now tokens.now) ≡ None)
-        (λ found. Gives text.now (reading.declaration depth_limit depth_limit (lexemes text.now tokens.now)) (declaration_given text.now found.0) found.1.now)) }
-    ensures left { IfOk result (λ answer. IfSome answer (λ found. IsPlacedGiven text.now found.0 × Behind text.now tokens.now found.1.now)) }
+pub(crate) fn declaration(source: &Source, at: usize) -> Read<Option<Decl>>
+    ensures is { IfOk result (Gives source.now (reading.declaration depth_limit depth_limit (ahead source.now at))
+        (declaration_given source.now.text.now)) }
+    ensures left { IfOk result (Leaves (IsPlacedGiven source.now.text.now) at) }
 {
-    let Some((keyword, behind)) = word_at(text, tokens) else {
+    let Some((keyword, after)) = word_at(source, at) else {
         return Ok(None);
     };
-    let Some((name, rest)) = name_at(text, behind) else {
+    let Some((name, rest)) = name_at(source, after) else {
         return Ok(None);
     };
-    let Some((decl, left)) = named(alloc, text, keyword, name, rest)? else {
+    let Some((decl, left)) = named(source, keyword, name, rest)? else {
         return Ok(None);
     };
     Ok(Some((decl, left)))

@@ -1,13 +1,13 @@
 //! The levels of the grammar.
-ghost use Rattle.std.specs.Prelude.{◌≡◌, Some, None, MatchOption, IfSome};
-ghost use Rattle.grind_grammar.specs.Lexemes.{lexemes};
+ghost use Rattle.std.specs.Prelude.{◌≡◌, IfSome};
 ghost use Rattle.grind_grammar.specs.Reading as reading;
 ghost use Rattle.grind_syntax.specs.Levels.{ops_of};
-ghost use Rattle.grind_syntax.specs.Places.{Placed, Past, Gives};
+ghost use Rattle.grind_syntax.specs.Sources.{ahead, IsPast, Gives};
 
 use crate::names::any_symbol_at;
-use grind_grammar::Binary;
-use grind_tokens::tokens::{Sym, Token};
+use crate::source::Source;
+use grind_grammar::{Binary, Unary};
+use grind_tokens::tokens::Sym;
 
 // A level, from the innermost.
 #[derive(Clone, Copy)]
@@ -23,6 +23,25 @@ pub(crate) enum Level {
     Impl,
     Formula,
 }
+
+// A sign before a term: its symbol, and the operator that it makes.
+#[derive(Clone, Copy)]
+pub(crate) struct Sign {
+    pub(crate) sym: Sym,
+    pub(crate) op: Unary,
+}
+
+// The sign of numbers.
+pub(crate) const MINUS: Sign = Sign {
+    sym: Sym::Minus,
+    op: Unary::Neg,
+};
+
+// The sign of formulas.
+pub(crate) const NOT: Sign = Sign {
+    sym: Sym::Not,
+    op: Unary::Not,
+};
 
 // The operator of a relation.
 fn relation_op(sym: Sym) -> Option<Binary>
@@ -66,20 +85,12 @@ fn op_of(level: Level, sym: Sym) -> Option<Binary>
     }
 }
 
-// The operator of a level at the front, and the tokens behind it.
-pub(crate) fn op_at<'a>(
-    text: &[u8],
-    level: Level,
-    tokens: &'a [Token],
-) -> Option<(Binary, &'a [Token])>
-    requires { Placed text.now tokens.now }
-    ensures is { MatchOption result (reading.op_at (ops_of level) (lexemes text.now tokens.now) ≡ None)
-        (λ found. Gives text.now (reading.op_at (ops_of level) (lexemes text.now tokens.now)) found.0 found.1.now) }
-    ensures left { IfSome result (λ found. Past text.now tokens.now found.1.now) }
+// The operator of a level here, and the place after it.
+pub(crate) fn op_at(source: &Source, level: Level, at: usize) -> Option<(Binary, usize)>
+    ensures is { Gives source.now (reading.op_at (ops_of level) (ahead source.now at)) (λ op. op) result }
+    ensures left { IfSome result (λ found. IsPast source.now at found.1) }
 {
-    let Some((sym, left)) = any_symbol_at(text, tokens) else {
-        return None;
-    };
+    let (sym, left) = any_symbol_at(source, at)?;
     let Some(op) = op_of(level, sym) else {
         return None;
     };

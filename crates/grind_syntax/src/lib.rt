@@ -12,5 +12,6 @@ pub mod parse;
 mod parts;
 mod pieces;
 mod sides;
+mod source;
 mod terms;
 mod trees;

@@ -1,36 +1,30 @@
 //! Lists of sorts and of bound variables.
-ghost use Rattle.std.specs.Prelude.{◌≡◌, ◌++◌, length, ℕ, List, Some, None, map, All, MatchOption, IfOk, IfSome};
+ghost use Rattle.std.specs.Prelude.{◌≡◌, ◌≤◌, ℕ, List, map, All, IfOk};
 ghost use Rattle.grind_tokens.specs.declared.tokens.Sym.TheVariants as symbols;
-ghost use Rattle.grind_grammar.specs.Lexemes.{lexemes};
 ghost use Rattle.grind_grammar.specs.Grammar.{joined};
 ghost use Rattle.grind_grammar.specs.Keeps.{IsPlaced, name_of};
 ghost use Rattle.grind_grammar.specs.Reading as reading;
-ghost use Rattle.grind_syntax.specs.Places.{Placed, Past, Behind, Gives, bound_of, IsPlacedBound};
+ghost use Rattle.grind_syntax.specs.Places.{bound_of, IsPlacedBound};
+ghost use Rattle.grind_syntax.specs.Sources.{ahead, Gives, GivesMade, Leaves};
 
 use crate::names::{name_at, sort_at, symbol_at};
+use crate::source::{Read, Source};
 use grind_grammar::{Binder, Name};
 use grind_outside::{List, Memory};
-use grind_tokens::tokens::{Sym, Token};
+use grind_tokens::tokens::Sym;
 use std::alloc::Global;
 
 // Reads sorts with commas between them.
-fn sorts<'a>(
-    alloc: Global,
-    text: &[u8],
-    tokens: &'a [Token],
-) -> Result<Option<(List<Name>, &'a [Token])>, Memory>
-    requires { Placed text.now tokens.now }
-    ensures is { IfOk result (λ answer. MatchOption answer
-        (reading.list_at reading.sort_at symbols.Comma (lexemes text.now tokens.now) ≡ None)
-        (λ found. Gives text.now (reading.list_at reading.sort_at symbols.Comma (lexemes text.now tokens.now)) (map (name_of text.now) found.0) found.1.now)) }
-    ensures left { IfOk result (λ answer. IfSome answer (λ found. All (IsPlaced text.now) found.0 × Behind text.now tokens.now found.1.now)) }
+fn sorts(source: &Source, at: usize) -> Read<List<Name>>
+    ensures is { IfOk result (Gives source.now (reading.list_at reading.sort_at symbols.Comma (ahead source.now at)) (map (name_of source.now.text.now))) }
+    ensures left { IfOk result (Leaves (All (IsPlaced source.now.text.now)) at) }
 {
-    let mut sorts = List::new(alloc);
-    let mut rest = tokens;
-    while let Some((sort, behind)) = sort_at(text, rest) {
+    let mut sorts = List::new(source.alloc);
+    let mut rest = at;
+    while let Some((sort, after)) = sort_at(source, rest) {
         sorts.push(sort)?;
-        let Some(left) = symbol_at(text, behind, Sym::Comma) else {
-            return Ok(Some((sorts, behind)));
+        let Some(left) = symbol_at(source, after, Sym::Comma) else {
+            return Ok(Some((sorts, after)));
         };
         rest = left;
     }
@@ -38,43 +32,31 @@ fn sorts<'a>(
 }
 
 // Reads the sorts of a function's arguments, none where no parenthesis stands.
-pub(crate) fn arguments<'a>(
-    alloc: Global,
-    text: &[u8],
-    tokens: &'a [Token],
-) -> Result<Option<(List<Name>, &'a [Token])>, Memory>
-    requires { Placed text.now tokens.now }
-    ensures is { IfOk result (λ answer. MatchOption answer
-        (reading.in_parentheses reading.sort_at (lexemes text.now tokens.now) ≡ None)
-        (λ found. Gives text.now (reading.in_parentheses reading.sort_at (lexemes text.now tokens.now)) (map (name_of text.now) found.0) found.1.now)) }
-    ensures left { IfOk result (λ answer. IfSome answer (λ found. All (IsPlaced text.now) found.0 × Behind text.now tokens.now found.1.now)) }
+pub(crate) fn arguments(source: &Source, at: usize) -> Read<List<Name>>
+    ensures is { IfOk result (Gives source.now (reading.in_parentheses reading.sort_at (ahead source.now at)) (map (name_of source.now.text.now))) }
+    ensures left { IfOk result (Leaves (All (IsPlaced source.now.text.now)) at) }
 {
-    let Some(inside) = symbol_at(text, tokens, Sym::LeftParen) else {
-        return Ok(Some((List::new(alloc), tokens)));
+    let Some(inside) = symbol_at(source, at, Sym::LeftParen) else {
+        return Ok(Some((List::new(source.alloc), at)));
     };
-    let Some((sorts, behind)) = sorts(alloc, text, inside)? else {
+    let Some((sorts, after)) = sorts(source, inside)? else {
         return Ok(None);
     };
-    let Some(left) = symbol_at(text, behind, Sym::RightParen) else {
+    let Some(left) = symbol_at(source, after, Sym::RightParen) else {
         return Ok(None);
     };
     Ok(Some((sorts, left)))
 }
 
-// Reads the names at the front, as many as there are.
-fn names<'a>(
-    alloc: Global,
-    text: &[u8],
-    tokens: &'a [Token],
-) -> Result<(List<Name>, &'a [Token]), Memory>
-    requires { Placed text.now tokens.now }
-    ensures names { IfOk result (λ found. (reading.names (lexemes text.now tokens.now)).0 ≡ map (name_of text.now) found.0) }
-    ensures rest { IfOk result (λ found. (reading.names (lexemes text.now tokens.now)).1 ≡ lexemes text.now found.1.now) }
-    ensures left { IfOk result (λ found. All (IsPlaced text.now) found.0 × Behind text.now tokens.now found.1.now) }
+// Reads the names here, as many as there are.
+fn names(source: &Source, at: usize) -> Result<(List<Name>, usize), Memory>
+    ensures names { IfOk result (λ found. (reading.names (ahead source.now at)).0 ≡ map (name_of source.now.text.now) found.0) }
+    ensures rest { IfOk result (λ found. (reading.names (ahead source.now at)).1 ≡ ahead source.now found.1) }
+    ensures left { IfOk result (λ found. All (IsPlaced source.now.text.now) found.0 × (at ≤ found.1)) }
 {
-    let mut names = List::new(alloc);
-    let mut rest = tokens;
-    while let Some((name, left)) = name_at(text, rest) {
+    let mut names = List::new(source.alloc);
+    let mut rest = at;
+    while let Some((name, left)) = name_at(source, rest) {
         names.push(name)?;
         rest = left;
     }
@@ -98,50 +80,36 @@ fn bind(alloc: Global, names: &[Name], sort: Name) -> Result<List<Binder>, Memor
 }
 
 // Reads names, a colon and their sort.
-fn group<'a>(
-    alloc: Global,
-    text: &[u8],
-    tokens: &'a [Token],
-) -> Result<Option<(List<Binder>, &'a [Token])>, Memory>
-    requires { Placed text.now tokens.now }
-    ensures is { IfOk result (λ answer. MatchOption answer
-        (reading.group (lexemes text.now tokens.now) ≡ None)
-        (λ found. Gives text.now (reading.group (lexemes text.now tokens.now)) (map (bound_of text.now) found.0) found.1.now)) }
-    ensures left { IfOk result (λ answer. IfSome answer (λ found. All (IsPlacedBound text.now) found.0 × Behind text.now tokens.now found.1.now)) }
+fn group(source: &Source, at: usize) -> Read<List<Binder>>
+    ensures is { IfOk result (Gives source.now (reading.group (ahead source.now at)) (map (bound_of source.now.text.now))) }
+    ensures left { IfOk result (Leaves (All (IsPlacedBound source.now.text.now)) at) }
 {
-    let (names, rest) = names(alloc, text, tokens)?;
-    let Some(behind) = symbol_at(text, rest, Sym::Colon) else {
+    let (names, rest) = names(source, at)?;
+    let Some(after) = symbol_at(source, rest, Sym::Colon) else {
         return Ok(None);
     };
     if names.is_empty() {
         return Ok(None);
     }
-    let Some((sort, left)) = sort_at(text, behind) else {
+    let Some((sort, left)) = sort_at(source, after) else {
         return Ok(None);
     };
-    let binders = bind(alloc, names.as_slice(), sort)?;
+    let binders = bind(source.alloc, names.as_slice(), sort)?;
     Ok(Some((binders, left)))
 }
 
 // Reads groups with commas between them, and puts what they bind into one list.
-fn groups<'a>(
-    alloc: Global,
-    text: &[u8],
-    tokens: &'a [Token],
-) -> Result<Option<(List<Binder>, &'a [Token])>, Memory>
-    requires { Placed text.now tokens.now }
-    ensures is { IfOk result (λ answer. MatchOption answer
-        (reading.list_at reading.group symbols.Comma (lexemes text.now tokens.now) ≡ None)
-        (λ found. Gives text.now (reading.read_map joined (reading.list_at reading.group symbols.Comma (lexemes text.now tokens.now)))
-        (map (bound_of text.now) found.0) found.1.now)) }
-    ensures left { IfOk result (λ answer. IfSome answer (λ found. All (IsPlacedBound text.now) found.0 × Behind text.now tokens.now found.1.now)) }
+fn groups(source: &Source, at: usize) -> Read<List<Binder>>
+    ensures is { IfOk result (GivesMade source.now joined (reading.list_at reading.group symbols.Comma (ahead source.now at))
+        (map (bound_of source.now.text.now))) }
+    ensures left { IfOk result (Leaves (All (IsPlacedBound source.now.text.now)) at) }
 {
-    let mut binders = List::new(alloc);
-    let mut rest = tokens;
-    while let Some((bound, behind)) = group(alloc, text, rest)? {
+    let mut binders = List::new(source.alloc);
+    let mut rest = at;
+    while let Some((bound, after)) = group(source, rest)? {
         binders.extend(bound.as_slice())?;
-        let Some(left) = symbol_at(text, behind, Sym::Comma) else {
-            return Ok(Some((binders, behind)));
+        let Some(left) = symbol_at(source, after, Sym::Comma) else {
+            return Ok(Some((binders, after)));
         };
         rest = left;
     }
@@ -149,24 +117,17 @@ fn groups<'a>(
 }
 
 // Reads the variables of a theorem or the constants of a goal, none where no parenthesis stands.
-pub(crate) fn binders<'a>(
-    alloc: Global,
-    text: &[u8],
-    tokens: &'a [Token],
-) -> Result<Option<(List<Binder>, &'a [Token])>, Memory>
-    requires { Placed text.now tokens.now }
-    ensures is { IfOk result (λ answer. MatchOption answer
-        (reading.binders (lexemes text.now tokens.now) ≡ None)
-        (λ found. Gives text.now (reading.binders (lexemes text.now tokens.now)) (map (bound_of text.now) found.0) found.1.now)) }
-    ensures left { IfOk result (λ answer. IfSome answer (λ found. All (IsPlacedBound text.now) found.0 × Behind text.now tokens.now found.1.now)) }
+pub(crate) fn binders(source: &Source, at: usize) -> Read<List<Binder>>
+    ensures is { IfOk result (Gives source.now (reading.binders (ahead source.now at)) (map (bound_of source.now.text.now))) }
+    ensures left { IfOk result (Leaves (All (IsPlacedBound source.now.text.now)) at) }
 {
-    let Some(inside) = symbol_at(text, tokens, Sym::LeftParen) else {
-        return Ok(Some((List::new(alloc), tokens)));
+    let Some(inside) = symbol_at(source, at, Sym::LeftParen) else {
+        return Ok(Some((List::new(source.alloc), at)));
     };
-    let Some((bound, behind)) = groups(alloc, text, inside)? else {
+    let Some((bound, after)) = groups(source, inside)? else {
         return Ok(None);
     };
-    let Some(left) = symbol_at(text, behind, Sym::RightParen) else {
+    let Some(left) = symbol_at(source, after, Sym::RightParen) else {
         return Ok(None);
     };
     Ok(Some((bound, left)))

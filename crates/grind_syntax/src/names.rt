@@ -1,13 +1,15 @@
-//! Symbols, names and sorts at the front of some tokens.
-ghost use Rattle.std.specs.Prelude.{◌≡◌, ℕ, List, codes, Some, None, MatchOption, IfSome, ◌∷◌};
+//! Symbols, names and sorts at a place of a source.
+ghost use Rattle.std.specs.Prelude.{◌≡◌, ◌≤◌, length, Some, None, MatchOption, IfSome, drop, ◌∷◌, []};
 ghost use Rattle.std.specs.List.{list_any};
 ghost use Rattle.std.specs.Str.{bytes_eq};
 ghost use Rattle.grind_grammar.specs.Names.{reserved};
-ghost use Rattle.grind_grammar.specs.Lexemes.{Word, Symbol, Number, lexemes};
+ghost use Rattle.grind_grammar.specs.Lexemes.{Word, Symbol, Number};
 ghost use Rattle.grind_grammar.specs.Keeps.{IsPlaced, name_of};
 ghost use Rattle.grind_grammar.specs.Reading as reading;
-ghost use Rattle.grind_syntax.specs.Places.{Placed, Past, Gives, NoWord, NoSymbol, NoNumber};
+ghost use Rattle.grind_syntax.specs.Places.{NoWord, NoSymbol, NoNumber};
+ghost use Rattle.grind_syntax.specs.Sources.{ahead, IsPast, Gives, Takes};
 
+use crate::source::Source;
 use grind_grammar::Name;
 use grind_tokens::tokens::{Sym, Token, TokenKind};
 
@@ -77,58 +79,65 @@ fn is_sort(word: &[u8]) -> bool
     is_same(word, b"Prop".as_slice())
 }
 
-// The tokens behind a symbol at the front. The text stands here for what is promised of it.
-pub(crate) fn symbol_at<'a>(_text: &[u8], tokens: &'a [Token], sym: Sym) -> Option<&'a [Token]>
-    requires { Placed _text.now tokens.now }
-    ensures is { MatchOption result (reading.symbol_at sym (lexemes _text.now tokens.now) ≡ None)
-        (λ left. reading.symbol_at sym (lexemes _text.now tokens.now) ≡ Some (lexemes _text.now left.now)) }
-    ensures left { IfSome result (λ left. Past _text.now tokens.now left.now) }
+// The token at a place, and the next place.
+fn token_at<'a>(source: &Source<'a>, at: usize) -> Option<(&'a Token, usize)>
+    ensures is { MatchOption result (drop at source.now.tokens.now ≡ [])
+        (λ found. drop at source.now.tokens.now ≡ found.0.now ∷ drop found.1 source.now.tokens.now) }
+    ensures left { IfSome result (λ found. IsPast source.now at found.1) }
+    ensures placed { IfSome result (λ found. (found.0.now.start ≤ found.0.now.end) × (found.0.now.end ≤ length source.now.text.now)) }
 {
-    let Some((found, left)) = any_symbol_at(_text, tokens) else {
+    if at >= source.tokens.len() {
         return None;
-    };
+    }
+    Some((&source.tokens[at], at + 1))
+}
+
+// The place after a symbol that stands here.
+pub(crate) fn symbol_at(source: &Source, at: usize, sym: Sym) -> Option<usize>
+    ensures is { MatchOption result (reading.symbol_at sym (ahead source.now at) ≡ None)
+        (λ left. reading.symbol_at sym (ahead source.now at) ≡ Some (ahead source.now left)) }
+    ensures left { IfSome result (λ left. IsPast source.now at left) }
+{
+    let (found, left) = any_symbol_at(source, at)?;
     if found == sym {
         return Some(left);
     }
     None
 }
 
-// The symbol at the front, and the tokens behind it.
-pub(crate) fn any_symbol_at<'a>(_text: &[u8], tokens: &'a [Token]) -> Option<(Sym, &'a [Token])>
-    requires { Placed _text.now tokens.now }
-    ensures is { MatchOption result (NoSymbol (lexemes _text.now tokens.now))
-        (λ found. lexemes _text.now tokens.now ≡ Symbol found.0 ∷ lexemes _text.now found.1.now) }
-    ensures left { IfSome result (λ found. Past _text.now tokens.now found.1.now) }
+// The symbol here, and the place after it.
+pub(crate) fn any_symbol_at(source: &Source, at: usize) -> Option<(Sym, usize)>
+    ensures is { MatchOption result (NoSymbol (ahead source.now at))
+        (λ found. ahead source.now at ≡ Symbol found.0 ∷ ahead source.now found.1) }
+    ensures left { IfSome result (λ found. IsPast source.now at found.1) }
 {
-    let (token, left) = tokens.split_first()?;
+    let (token, left) = token_at(source, at)?;
     let TokenKind::Symbol(sym) = token.kind else {
         return None;
     };
     Some((sym, left))
 }
 
-// The number at the front, and the tokens behind it.
-pub(crate) fn number_at<'a>(_text: &[u8], tokens: &'a [Token]) -> Option<(i128, &'a [Token])>
-    requires { Placed _text.now tokens.now }
-    ensures is { MatchOption result (NoNumber (lexemes _text.now tokens.now))
-        (λ found. lexemes _text.now tokens.now ≡ Number found.0 ∷ lexemes _text.now found.1.now) }
-    ensures left { IfSome result (λ found. Past _text.now tokens.now found.1.now) }
+// The number here, and the place after it.
+pub(crate) fn number_at(source: &Source, at: usize) -> Option<(i128, usize)>
+    ensures is { MatchOption result (NoNumber (ahead source.now at))
+        (λ found. ahead source.now at ≡ Number found.0 ∷ ahead source.now found.1) }
+    ensures left { IfSome result (λ found. IsPast source.now at found.1) }
 {
-    let (token, left) = tokens.split_first()?;
+    let (token, left) = token_at(source, at)?;
     let TokenKind::Number(value) = token.kind else {
         return None;
     };
     Some((value, left))
 }
 
-// The word at the front, as the place where it stands, and the tokens behind it.
-pub(crate) fn word_at<'a>(text: &[u8], tokens: &'a [Token]) -> Option<(Name, &'a [Token])>
-    requires { Placed text.now tokens.now }
-    ensures is { MatchOption result (NoWord (lexemes text.now tokens.now))
-        (λ found. lexemes text.now tokens.now ≡ Word (name_of text.now found.0) ∷ lexemes text.now found.1.now) }
-    ensures left { IfSome result (λ found. IsPlaced text.now found.0 × Past text.now tokens.now found.1.now) }
+// The word here, as the range of bytes where it stands, and the place after it.
+pub(crate) fn word_at(source: &Source, at: usize) -> Option<(Name, usize)>
+    ensures is { MatchOption result (NoWord (ahead source.now at))
+        (λ found. ahead source.now at ≡ Word (name_of source.now.text.now found.0) ∷ ahead source.now found.1) }
+    ensures left { Takes source.now (IsPlaced source.now.text.now) at result }
 {
-    let (token, left) = tokens.split_first()?;
+    let (token, left) = token_at(source, at)?;
     let TokenKind::Word = token.kind else {
         return None;
     };
@@ -147,33 +156,25 @@ pub(crate) fn bytes_of<'a>(text: &'a [u8], name: Name) -> &'a [u8]
     &text[name.start as usize..name.end as usize]
 }
 
-// The name at the front, and the tokens behind it.
-pub(crate) fn name_at<'a>(text: &[u8], tokens: &'a [Token]) -> Option<(Name, &'a [Token])>
-    requires { Placed text.now tokens.now }
-    ensures is { MatchOption result (reading.name_at (lexemes text.now tokens.now) ≡ None)
-        (λ found. Gives text.now (reading.name_at (lexemes text.now tokens.now)) (name_of text.now found.0) found.1.now) }
-    ensures left { IfSome result (λ found. IsPlaced text.now found.0 × Past text.now tokens.now found.1.now) }
+// The name here, and the place after it.
+pub(crate) fn name_at(source: &Source, at: usize) -> Option<(Name, usize)>
+    ensures is { Gives source.now (reading.name_at (ahead source.now at)) (name_of source.now.text.now) result }
+    ensures left { Takes source.now (IsPlaced source.now.text.now) at result }
 {
-    let Some((name, left)) = word_at(text, tokens) else {
-        return None;
-    };
-    if is_name(bytes_of(text, name)) {
+    let (name, left) = word_at(source, at)?;
+    if is_name(bytes_of(source.text, name)) {
         return Some((name, left));
     }
     None
 }
 
-// The sort at the front, and the tokens behind it.
-pub(crate) fn sort_at<'a>(text: &[u8], tokens: &'a [Token]) -> Option<(Name, &'a [Token])>
-    requires { Placed text.now tokens.now }
-    ensures is { MatchOption result (reading.sort_at (lexemes text.now tokens.now) ≡ None)
-        (λ found. Gives text.now (reading.sort_at (lexemes text.now tokens.now)) (name_of text.now found.0) found.1.now) }
-    ensures left { IfSome result (λ found. IsPlaced text.now found.0 × Past text.now tokens.now found.1.now) }
+// The sort here, and the place after it.
+pub(crate) fn sort_at(source: &Source, at: usize) -> Option<(Name, usize)>
+    ensures is { Gives source.now (reading.sort_at (ahead source.now at)) (name_of source.now.text.now) result }
+    ensures left { Takes source.now (IsPlaced source.now.text.now) at result }
 {
-    let Some((name, left)) = word_at(text, tokens) else {
-        return None;
-    };
-    if is_sort(bytes_of(text, name)) {
+    let (name, left) = word_at(source, at)?;
+    if is_sort(bytes_of(source.text, name)) {
         return Some((name, left));
     }
     None

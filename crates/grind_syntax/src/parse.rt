@@ -6,12 +6,13 @@ ghost use Rattle.grind_grammar.specs.Lexemes.{lexemes};
 ghost use Rattle.grind_grammar.specs.Files.{DeclarationsOf, Syntax};
 ghost use Rattle.grind_grammar.specs.Keeps.{KeepsDecls};
 ghost use Rattle.grind_grammar.specs.Reading as reading;
-ghost use Rattle.grind_syntax.specs.Places.{Placed};
+ghost use Rattle.grind_syntax.specs.Sources.{ahead};
 ghost use Rattle.grind_syntax.specs.KeptDeclarations.{declaration_kept, IsPlacedDeclaration};
 ghost use Rattle.grind_syntax.specs.Refusals.{IsVerdict, IsRefusal, IsEndRefusal};
 
 use crate::declarations::declaration;
 use crate::pieces::{is_within, split_at_dot};
+use crate::source::Source;
 use grind_grammar::Decl;
 use grind_grammar::laws::pieces_are_judged;
 use grind_outside::{List, Memory};
@@ -31,7 +32,7 @@ pub enum SyntaxRefusal {
         /// The number of the declaration.
         decl: u32,
     },
-    /// Memory was wanted, and there was none.
+    /// Out of memory.
     Memory,
 }
 
@@ -46,19 +47,18 @@ impl From<Memory> for SyntaxRefusal {
 }
 
 // Reads a piece as the declaration of this number.
-fn read_piece(alloc: Global, text: &[u8], piece: &[Token], decl: u32) -> Result<Decl, SyntaxRefusal>
-    requires { Placed text.now piece.now }
-    ensures ok { IfOk result (λ kept. reading.judged (lexemes text.now piece.now) ≡ Ok (declaration_kept text.now kept)) }
-    ensures placed { IfOk result (λ kept. IsPlacedDeclaration text.now kept) }
-    ensures refused { IfErr result (IsVerdict (reading.judged (lexemes text.now piece.now)) decl) }
+fn read_piece(piece: &Source, decl: u32) -> Result<Decl, SyntaxRefusal>
+    ensures ok { IfOk result (λ kept. reading.judged (ahead piece.now 0) ≡ Ok (declaration_kept piece.now.text.now kept)) }
+    ensures placed { IfOk result (λ kept. IsPlacedDeclaration piece.now.text.now kept) }
+    ensures refused { IfErr result (IsVerdict (reading.judged (ahead piece.now 0)) decl) }
 {
-    if !is_within(text, piece) {
+    if !is_within(piece) {
         return Err(SyntaxRefusal::TooDeep { decl });
     }
-    let Some((given, left)) = declaration(alloc, text, piece)? else {
+    let Some((given, left)) = declaration(piece, 0)? else {
         return Err(SyntaxRefusal::Syntax { decl });
     };
-    if left.len() > 0 {
+    if left < piece.tokens.len() {
         return Err(SyntaxRefusal::Syntax { decl });
     }
     let Some(kept) = given else {
@@ -68,10 +68,10 @@ fn read_piece(alloc: Global, text: &[u8], piece: &[Token], decl: u32) -> Result<
 }
 
 // What is wrong with a last piece without its dot.
-fn unended(text: &[u8], piece: &[Token], decl: u32) -> SyntaxRefusal
-    ensures { IsEndRefusal (lexemes text.now piece.now) decl result }
+fn unended(piece: &Source, decl: u32) -> SyntaxRefusal
+    ensures { IsEndRefusal (ahead piece.now 0) decl result }
 {
-    if !is_within(text, piece) {
+    if !is_within(piece) {
         return SyntaxRefusal::TooDeep { decl };
     }
     SyntaxRefusal::Syntax { decl }
@@ -82,8 +82,8 @@ fn unended(text: &[u8], piece: &[Token], decl: u32) -> SyntaxRefusal
 ///
 /// # Errors
 ///
-/// `Syntax` and `TooDeep` name the first declaration that is bad, and what is wrong with it; `Memory` comes
-/// where memory was wanted and there was none.
+/// `Syntax` and `TooDeep` name the first declaration that is bad, and say what is wrong with it; `Memory` says that
+/// it ran out of memory.
 pub fn parse(alloc: Global, text: &[u8], tokens: &List<Token>) -> Result<List<Decl>, SyntaxRefusal>
     requires { All (IsPiece text.now) tokens.now }
     ensures ok { IfOk result (λ kept. (ds : List Declaration)
@@ -95,11 +95,16 @@ pub fn parse(alloc: Global, text: &[u8], tokens: &List<Token>) -> Result<List<De
     let mut rest = tokens.as_slice();
     let mut count: u32 = 0;
     while rest.len() > 0 {
-        let (piece, behind) = split_at_dot(text, rest);
-        let Some(left) = behind else {
-            return Err(unended(text, piece, count + 1));
+        let (front, after) = split_at_dot(rest);
+        let piece = Source {
+            alloc,
+            text,
+            tokens: front,
         };
-        let kept = match read_piece(alloc, text, piece, count + 1) {
+        let Some(left) = after else {
+            return Err(unended(&piece, count + 1));
+        };
+        let kept = match read_piece(&piece, count + 1) {
             Ok(kept) => kept,
             Err(refusal) => return Err(refusal),
         };

@@ -1,23 +1,21 @@
 //! The pieces of a file: what stands before each dot.
-ghost use Rattle.std.specs.Prelude.{◌≡◌, ◌≢◌, ◌++◌, ◌∷◌, ◌<◌, ℕ, List, length, All, MatchOption, IfSome};
-ghost use Rattle.grind_tokens.specs.declared.tokens.Sym.TheVariants as symbols;
-ghost use Rattle.grind_grammar.specs.Lexemes.{lexemes, Symbol};
+ghost use Rattle.std.specs.Prelude.{◌≡◌, ◌<◌, ℕ, List, MatchOption};
 ghost use Rattle.grind_grammar.specs.Reading as reading;
-ghost use Rattle.grind_grammar.specs.Parentheses.{open_after};
 ghost use Rattle.grind_grammar.specs.Files.{depth_limit};
-ghost use Rattle.grind_syntax.specs.Places.{Placed, Past};
-ghost use Rattle.grind_syntax.specs.Pieces.{AreUndotted, DotBehind, open_behind};
+ghost use Rattle.grind_syntax.specs.Places.{Placed};
+ghost use Rattle.grind_syntax.specs.Sources.{ahead};
+ghost use Rattle.grind_syntax.specs.Pieces.{AreUndotted, DotAfter, IsCut, open_after_kind};
 
-use crate::names::symbol_at;
+use crate::source::Source;
 use grind_tokens::tokens::{Sym, Token, TokenKind};
 
 // How many parentheses may be open.
 const OPEN: usize = 200;
 
-// How many parentheses are open behind a token.
+// How many parentheses are open after a token.
 fn open_after(count: usize, kind: TokenKind) -> usize
     requires { count < 1000 }
-    ensures { result ≡ open_behind count kind }
+    ensures { result ≡ open_after_kind count kind }
 {
     match kind {
         TokenKind::Symbol(Sym::LeftParen) => count + 1,
@@ -26,12 +24,12 @@ fn open_after(count: usize, kind: TokenKind) -> usize
     }
 }
 
-// Whether no token leaves more parentheses open than may be. The text stands here for what is promised of it.
-pub(crate) fn is_within(_text: &[u8], tokens: &[Token]) -> bool
-    ensures { result ≡ reading.within depth_limit 0 (lexemes _text.now tokens.now) }
+// Whether no token leaves more parentheses open than may be.
+pub(crate) fn is_within(piece: &Source) -> bool
+    ensures { result ≡ reading.within depth_limit 0 (ahead piece.now 0) }
 {
     let mut count = 0;
-    let mut rest = tokens;
+    let mut rest = piece.tokens;
     while let Some((token, left)) = rest.split_first() {
         count = open_after(count, token.kind);
         if count > OPEN {
@@ -44,7 +42,7 @@ pub(crate) fn is_within(_text: &[u8], tokens: &[Token]) -> bool
 
 // How many tokens stand before the first dot.
 fn len_to_dot(tokens: &[Token]) -> usize
-    ensures { DotBehind tokens.now result }
+    ensures { DotAfter tokens.now result }
 {
     let mut count = 0;
     let mut rest = tokens;
@@ -58,20 +56,14 @@ fn len_to_dot(tokens: &[Token]) -> usize
     count
 }
 
-// The tokens before the first dot, and those behind it, if there is one.
-pub(crate) fn split_at_dot<'a>(
-    text: &[u8],
-    tokens: &'a [Token],
-) -> (&'a [Token], Option<&'a [Token]>)
-    requires { Placed text.now tokens.now }
+// The tokens before the first dot, and those after it, if there is one.
+pub(crate) fn split_at_dot(tokens: &[Token]) -> (&[Token], Option<&[Token]>)
     ensures undotted { AreUndotted result.0.now }
-    ensures placed { Placed text.now result.0.now }
-    ensures is { MatchOption result.1 (result.0.now ≡ tokens.now)
-        (λ left. lexemes text.now tokens.now ≡ lexemes text.now result.0.now ++ Symbol symbols.Dot ∷ lexemes text.now left.now) }
-    ensures left { IfSome result.1 (λ left. Past text.now tokens.now left.now) }
+    ensures placed { (text : List ℕ) → Placed text tokens.now → Placed text result.0.now }
+    ensures is { MatchOption result.1 (result.0.now ≡ tokens.now) (λ left. IsCut tokens.now result.0.now left.now) }
 {
-    let (piece, behind) = tokens.split_at(len_to_dot(tokens));
-    let Some(left) = symbol_at(text, behind, Sym::Dot) else {
+    let (piece, rest) = tokens.split_at(len_to_dot(tokens));
+    let Some((_dot, left)) = rest.split_first() else {
         return (piece, None);
     };
     (piece, Some(left))

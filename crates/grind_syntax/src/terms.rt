@@ -1,37 +1,33 @@
 //! Formulas and terms. Of a term deeper than the limit no tree is built, and the rest is still judged.
-ghost use Rattle.std.specs.Prelude.{◌≡◌, ◌+◌, ℕ, suc, List, [], Some, None, length, MatchOption, IfOk, IfSome};
+ghost use Rattle.std.specs.Prelude.{◌≡◌, ◌≤◌, ℕ, suc, List, [], Some, length, IfOk};
 ghost use Rattle.grind_tokens.specs.declared.tokens.Sym.TheVariants as symbols;
-ghost use Rattle.grind_grammar.specs.Lexemes.{lexemes};
 ghost use Rattle.grind_grammar.specs.Keeps.{IsPlaced, name_of};
 ghost use Rattle.grind_grammar.specs.Reading as reading;
 ghost use Rattle.grind_grammar.specs.Files.{depth_limit};
-ghost use Rattle.grind_syntax.specs.Places.{Placed, Behind, Gives};
+ghost use Rattle.grind_syntax.specs.Sources.{ahead, Gives, GivesMade, Leaves};
 ghost use Rattle.grind_syntax.specs.Levels.{level, ops_of};
-ghost use Rattle.grind_syntax.specs.Built.{term_given, IsPlacedBuilt, terms_given, IsPlacedParts, one_times, Signed};
+ghost use Rattle.grind_syntax.specs.Built.{term_given, IsPlacedBuilt, terms_given, IsPlacedParts, Signed};
 
 use crate::built::Built;
-use crate::levels::{Level, op_at};
+use crate::levels::{Level, MINUS, NOT, Sign, op_at};
 use crate::names::{bytes_of, is_name, is_same, number_at, symbol_at, word_at};
 use crate::parts::Parts;
 use crate::sides::Side;
+use crate::source::{Read, Source};
 use crate::trees::{applied, fit, joined, two, with_part, with_signs};
-use grind_grammar::{Name, Tree, Unary};
-use grind_outside::{List, Memory};
-use grind_tokens::tokens::{Sym, Token};
+use grind_grammar::{Name, Tree};
+use grind_outside::List;
+use grind_tokens::tokens::Sym;
 use std::alloc::Global;
 
-// What a reader of a term gives: the tree, if it is no deeper than the limit, and the tokens that are left.
-type Read<'a> = Result<Option<(Option<Built>, &'a [Token])>, Memory>;
-
-// Counts the signs at the front.
-fn signs<'a>(text: &[u8], sym: Sym, tokens: &'a [Token]) -> (usize, &'a [Token])
-    requires { Placed text.now tokens.now }
-    ensures is { Signed sym (lexemes text.now tokens.now) result.0 (lexemes text.now result.1.now) }
-    ensures left { Behind text.now tokens.now result.1.now }
+// Counts the signs here.
+fn signs(source: &Source, sym: Sym, at: usize) -> (usize, usize)
+    ensures is { Signed sym (ahead source.now at) result.0 (ahead source.now result.1) }
+    ensures left { at ≤ result.1 }
 {
     let mut count = 0;
-    let mut rest = tokens;
-    while let Some(left) = symbol_at(text, rest, sym) {
+    let mut rest = at;
+    while let Some(left) = symbol_at(source, rest, sym) {
         count += 1;
         rest = left;
     }
@@ -40,100 +36,56 @@ fn signs<'a>(text: &[u8], sym: Sym, tokens: &'a [Token]) -> (usize, &'a [Token])
 
 // Reads a term of a level.
 #[cycle(terms)]
-pub(crate) fn read_level<'a>(
-    alloc: Global,
-    text: &[u8],
-    room: u8,
-    of: Level,
-    tokens: &'a [Token],
-) -> Read<'a>
-    requires { Placed text.now tokens.now }
-    ensures is { IfOk result (λ answer. MatchOption answer
-        (level of room (lexemes text.now tokens.now) ≡ None)
-        (λ found. Gives text.now (level of room (lexemes text.now tokens.now)) (term_given text.now found.0) found.1.now)) }
-    ensures left { IfOk result (λ answer. IfSome answer (λ found. IsPlacedBuilt text.now found.0 × Behind text.now tokens.now found.1.now)) }
+pub(crate) fn read_level(source: &Source, room: u8, of: Level, at: usize) -> Read<Option<Built>>
+    ensures is { IfOk result (Gives source.now (level of room (ahead source.now at)) (term_given source.now.text.now)) }
+    ensures left { IfOk result (Leaves (IsPlacedBuilt source.now.text.now) at) }
 {
     match of {
-        Level::Atom => atom(alloc, text, room, tokens),
-        Level::Minus => signed(
-            alloc,
-            text,
-            room,
-            Level::Atom,
-            Sym::Minus,
-            Unary::Neg,
-            tokens,
-        ),
-        Level::Product => left_joined(alloc, text, room, Level::Minus, Level::Product, tokens),
-        Level::Sum => left_joined(alloc, text, room, Level::Product, Level::Sum, tokens),
-        Level::Relation => once(alloc, text, room, Level::Sum, Level::Relation, tokens),
-        Level::Negation => signed(
-            alloc,
-            text,
-            room,
-            Level::Relation,
-            Sym::Not,
-            Unary::Not,
-            tokens,
-        ),
-        Level::Conj => left_joined(alloc, text, room, Level::Negation, Level::Conj, tokens),
-        Level::Disj => left_joined(alloc, text, room, Level::Conj, Level::Disj, tokens),
-        Level::Impl => right_joined(alloc, text, room, Level::Disj, Level::Impl, tokens),
-        Level::Formula => once(alloc, text, room, Level::Impl, Level::Formula, tokens),
+        Level::Atom => atom(source, room, at),
+        Level::Minus => signed(source, room, Level::Atom, MINUS, at),
+        Level::Product => left_joined(source, room, Level::Minus, Level::Product, at),
+        Level::Sum => left_joined(source, room, Level::Product, Level::Sum, at),
+        Level::Relation => once(source, room, Level::Sum, Level::Relation, at),
+        Level::Negation => signed(source, room, Level::Relation, NOT, at),
+        Level::Conj => left_joined(source, room, Level::Negation, Level::Conj, at),
+        Level::Disj => left_joined(source, room, Level::Conj, Level::Disj, at),
+        Level::Impl => right_joined(source, room, Level::Disj, Level::Impl, at),
+        Level::Formula => once(source, room, Level::Impl, Level::Formula, at),
     }
 }
 
-// Reads signs, and a term of a level behind them.
+// Reads signs, and a term of a level after them.
 #[cycle(terms)]
-fn signed<'a>(
-    alloc: Global,
-    text: &[u8],
-    room: u8,
-    part: Level,
-    sym: Sym,
-    op: Unary,
-    tokens: &'a [Token],
-) -> Read<'a>
-    requires { Placed text.now tokens.now }
-    ensures is { IfOk result (λ answer. MatchOption answer
-        (reading.signed depth_limit sym op (level part room) (lexemes text.now tokens.now) ≡ None)
-        (λ found. Gives text.now (reading.signed depth_limit sym op (level part room) (lexemes text.now tokens.now)) (term_given text.now found.0) found.1.now)) }
-    ensures left { IfOk result (λ answer. IfSome answer (λ found. IsPlacedBuilt text.now found.0 × Behind text.now tokens.now found.1.now)) }
+fn signed(source: &Source, room: u8, part: Level, sign: Sign, at: usize) -> Read<Option<Built>>
+    ensures is { IfOk result (Gives source.now (reading.signed depth_limit sign.sym sign.op (level part room) (ahead source.now at))
+        (term_given source.now.text.now)) }
+    ensures left { IfOk result (Leaves (IsPlacedBuilt source.now.text.now) at) }
 {
-    let (count, rest) = signs(text, sym, tokens);
-    let Some((term, left)) = read_level(alloc, text, room, part, rest)? else {
+    let (count, rest) = signs(source, sign.sym, at);
+    let Some((term, left)) = read_level(source, room, part, rest)? else {
         return Ok(None);
     };
-    let whole = with_signs(alloc, op, count, term)?;
+    let whole = with_signs(source.alloc, sign.op, count, term)?;
     Ok(Some((whole, left)))
 }
 
 // Reads terms of a level with operators between them, joined to the left.
 #[cycle(terms)]
-fn left_joined<'a>(
-    alloc: Global,
-    text: &[u8],
-    room: u8,
-    part: Level,
-    ops: Level,
-    tokens: &'a [Token],
-) -> Read<'a>
-    requires { Placed text.now tokens.now }
-    ensures is { IfOk result (λ answer. MatchOption answer
-        (reading.left_joined depth_limit (ops_of ops) (level part room) (lexemes text.now tokens.now) ≡ None)
-        (λ found. Gives text.now (reading.left_joined depth_limit (ops_of ops) (level part room) (lexemes text.now tokens.now)) (term_given text.now found.0) found.1.now)) }
-    ensures left { IfOk result (λ answer. IfSome answer (λ found. IsPlacedBuilt text.now found.0 × Behind text.now tokens.now found.1.now)) }
+fn left_joined(source: &Source, room: u8, part: Level, ops: Level, at: usize) -> Read<Option<Built>>
+    ensures is { IfOk result (Gives source.now (reading.left_joined depth_limit (ops_of ops) (level part room) (ahead source.now at))
+        (term_given source.now.text.now)) }
+    ensures left { IfOk result (Leaves (IsPlacedBuilt source.now.text.now) at) }
 {
-    let Some((first, behind)) = read_level(alloc, text, room, part, tokens)? else {
+    let Some((first, after)) = read_level(source, room, part, at)? else {
         return Ok(None);
     };
     let mut whole = first;
-    let mut rest = behind;
-    while let Some((op, mid)) = op_at(text, ops, rest) {
-        let Some((next, left)) = read_level(alloc, text, room, part, mid)? else {
+    let mut rest = after;
+    while let Some((op, mid)) = op_at(source, ops, rest) {
+        let Some((next, left)) = read_level(source, room, part, mid)? else {
             return Ok(None);
         };
-        whole = two(alloc, op, whole, next)?;
+        whole = two(source.alloc, op, whole, next)?;
         rest = left;
     }
     Ok(Some((whole, rest)))
@@ -141,27 +93,24 @@ fn left_joined<'a>(
 
 // Reads terms of a level with operators between them, joined to the right.
 #[cycle(terms)]
-fn right_joined<'a>(
-    alloc: Global,
-    text: &[u8],
+fn right_joined(
+    source: &Source,
     room: u8,
     part: Level,
     ops: Level,
-    tokens: &'a [Token],
-) -> Read<'a>
-    requires { Placed text.now tokens.now }
-    ensures is { IfOk result (λ answer. MatchOption answer
-        (reading.right_chain depth_limit (ops_of ops) (level part room) (suc (length (lexemes text.now tokens.now))) (lexemes text.now tokens.now) ≡ None)
-        (λ found. Gives text.now (reading.right_chain depth_limit (ops_of ops) (level part room) (suc (length (lexemes text.now tokens.now))) (lexemes text.now tokens.now))
-        (term_given text.now found.0) found.1.now)) }
-    ensures left { IfOk result (λ answer. IfSome answer (λ found. IsPlacedBuilt text.now found.0 × Behind text.now tokens.now found.1.now)) }
+    at: usize,
+) -> Read<Option<Built>>
+    ensures is { IfOk result (Gives source.now
+        (reading.right_chain depth_limit (ops_of ops) (level part room) (suc (length (ahead source.now at))) (ahead source.now at))
+        (term_given source.now.text.now)) }
+    ensures left { IfOk result (Leaves (IsPlacedBuilt source.now.text.now) at) }
 {
-    let mut sides = List::new(alloc);
-    let mut rest = tokens;
-    while let Some((side, behind)) = read_level(alloc, text, room, part, rest)? {
-        let Some((op, left)) = op_at(text, ops, behind) else {
-            let whole = joined(alloc, sides, side)?;
-            return Ok(Some((whole, behind)));
+    let mut sides = List::new(source.alloc);
+    let mut rest = at;
+    while let Some((side, after)) = read_level(source, room, part, rest)? {
+        let Some((op, left)) = op_at(source, ops, after) else {
+            let whole = joined(source.alloc, sides, side)?;
+            return Ok(Some((whole, after)));
         };
         sides.push(Side { side, op })?;
         rest = left;
@@ -169,74 +118,62 @@ fn right_joined<'a>(
     Ok(None)
 }
 
-// Reads a term of a level, and a second one behind an operator.
+// Reads a term of a level, and a second one after an operator.
 #[cycle(terms)]
-fn once<'a>(
-    alloc: Global,
-    text: &[u8],
-    room: u8,
-    part: Level,
-    ops: Level,
-    tokens: &'a [Token],
-) -> Read<'a>
-    requires { Placed text.now tokens.now }
-    ensures is { IfOk result (λ answer. MatchOption answer
-        (reading.once depth_limit (ops_of ops) (level part room) (level part room) (lexemes text.now tokens.now) ≡ None)
-        (λ found. Gives text.now (reading.once depth_limit (ops_of ops) (level part room) (level part room) (lexemes text.now tokens.now)) (term_given text.now found.0) found.1.now)) }
-    ensures left { IfOk result (λ answer. IfSome answer (λ found. IsPlacedBuilt text.now found.0 × Behind text.now tokens.now found.1.now)) }
+fn once(source: &Source, room: u8, part: Level, ops: Level, at: usize) -> Read<Option<Built>>
+    ensures is { IfOk result (Gives source.now
+        (reading.once depth_limit (ops_of ops) (level part room) (level part room) (ahead source.now at))
+        (term_given source.now.text.now)) }
+    ensures left { IfOk result (Leaves (IsPlacedBuilt source.now.text.now) at) }
 {
-    let Some((first, behind)) = read_level(alloc, text, room, part, tokens)? else {
+    let Some((first, after)) = read_level(source, room, part, at)? else {
         return Ok(None);
     };
-    let Some((op, mid)) = op_at(text, ops, behind) else {
-        return Ok(Some((first, behind)));
+    let Some((op, mid)) = op_at(source, ops, after) else {
+        return Ok(Some((first, after)));
     };
-    let Some((second, left)) = read_level(alloc, text, room, part, mid)? else {
+    let Some((second, left)) = read_level(source, room, part, mid)? else {
         return Ok(None);
     };
-    let whole = two(alloc, op, first, second)?;
+    let whole = two(source.alloc, op, first, second)?;
     Ok(Some((whole, left)))
 }
 
 // Reads a number, a formula in parentheses, or a word with what belongs to it.
 #[cycle(terms)]
-fn atom<'a>(alloc: Global, text: &[u8], room: u8, tokens: &'a [Token]) -> Read<'a>
-    requires { Placed text.now tokens.now }
-    ensures is { IfOk result (λ answer. MatchOption answer
-        (reading.atom depth_limit (reading.formula depth_limit room) (lexemes text.now tokens.now) ≡ None)
-        (λ found. Gives text.now (reading.atom depth_limit (reading.formula depth_limit room) (lexemes text.now tokens.now)) (term_given text.now found.0) found.1.now)) }
-    ensures left { IfOk result (λ answer. IfSome answer (λ found. IsPlacedBuilt text.now found.0 × Behind text.now tokens.now found.1.now)) }
+fn atom(source: &Source, room: u8, at: usize) -> Read<Option<Built>>
+    ensures is { IfOk result (Gives source.now (reading.atom depth_limit (reading.formula depth_limit room) (ahead source.now at))
+        (term_given source.now.text.now)) }
+    ensures left { IfOk result (Leaves (IsPlacedBuilt source.now.text.now) at) }
 {
-    if let Some((value, left)) = number_at(text, tokens) {
+    if let Some((value, left)) = number_at(source, at) {
         return Ok(Some((fit(Tree::Number(value), 1), left)));
     }
-    if let Some((name, left)) = word_at(text, tokens) {
-        let answer = word(alloc, text, room, name, left)?;
+    if let Some((name, left)) = word_at(source, at) {
+        let answer = word(source, room, name, left)?;
         return Ok(answer);
     }
-    let Some(mid) = symbol_at(text, tokens, Sym::LeftParen) else {
+    let Some(mid) = symbol_at(source, at, Sym::LeftParen) else {
         return Ok(None);
     };
-    let answer = inside(alloc, text, room, mid)?;
+    let answer = inside(source, room, mid)?;
     Ok(answer)
 }
 
-// Reads a formula and the right parenthesis behind it.
+// Reads a formula and the right parenthesis after it.
 #[cycle(terms)]
-fn inside<'a>(alloc: Global, text: &[u8], room: u8, tokens: &'a [Token]) -> Read<'a>
-    requires { Placed text.now tokens.now }
-    ensures is { IfOk result (λ answer. MatchOption answer
-        (reading.closed symbols.RightParen (reading.formula depth_limit room (lexemes text.now tokens.now)) ≡ None)
-        (λ found. Gives text.now (reading.closed symbols.RightParen (reading.formula depth_limit room (lexemes text.now tokens.now))) (term_given text.now found.0) found.1.now)) }
-    ensures left { IfOk result (λ answer. IfSome answer (λ found. IsPlacedBuilt text.now found.0 × Behind text.now tokens.now found.1.now)) }
+fn inside(source: &Source, room: u8, at: usize) -> Read<Option<Built>>
+    ensures is { IfOk result (Gives source.now (reading.closed symbols.RightParen (reading.formula depth_limit room (ahead source.now at)))
+        (term_given source.now.text.now)) }
+    ensures left { IfOk result (Leaves (IsPlacedBuilt source.now.text.now) at) }
 {
     if room == 0 {
         return Ok(None);
     }
-    let Some((term, behind)) = read_level(alloc, text, room - 1, Level::Formula, tokens)? else {
+    let Some((term, after)) = read_level(source, room - 1, Level::Formula, at)? else {
         return Ok(None);
     };
-    let Some(left) = symbol_at(text, behind, Sym::RightParen) else {
+    let Some(left) = symbol_at(source, after, Sym::RightParen) else {
         return Ok(None);
     };
     Ok(Some((term, left)))
@@ -244,29 +181,27 @@ fn inside<'a>(alloc: Global, text: &[u8], room: u8, tokens: &'a [Token]) -> Read
 
 // Reads what belongs to a word: nothing, or its parts in parentheses.
 #[cycle(terms)]
-fn word<'a>(alloc: Global, text: &[u8], room: u8, name: Name, tokens: &'a [Token]) -> Read<'a>
-    requires placed { Placed text.now tokens.now }
-    requires named { IsPlaced text.now name }
-    ensures is { IfOk result (λ answer. MatchOption answer
-        (reading.word_atom depth_limit (reading.formula depth_limit room) (name_of text.now name) (lexemes text.now tokens.now) ≡ None)
-        (λ found. Gives text.now (reading.word_atom depth_limit (reading.formula depth_limit room) (name_of text.now name) (lexemes text.now tokens.now))
-        (term_given text.now found.0) found.1.now)) }
-    ensures left { IfOk result (λ answer. IfSome answer (λ found. IsPlacedBuilt text.now found.0 × Behind text.now tokens.now found.1.now)) }
+fn word(source: &Source, room: u8, name: Name, at: usize) -> Read<Option<Built>>
+    requires { IsPlaced source.now.text.now name }
+    ensures is { IfOk result (Gives source.now
+        (reading.word_atom depth_limit (reading.formula depth_limit room) (name_of source.now.text.now name) (ahead source.now at))
+        (term_given source.now.text.now)) }
+    ensures left { IfOk result (Leaves (IsPlacedBuilt source.now.text.now) at) }
 {
-    let bytes = bytes_of(text, name);
+    let bytes = bytes_of(source.text, name);
     if is_same(bytes, b"true".as_slice()) {
-        return Ok(Some((fit(Tree::True, 1), tokens)));
+        return Ok(Some((fit(Tree::True, 1), at)));
     }
     if is_same(bytes, b"false".as_slice()) {
-        return Ok(Some((fit(Tree::False, 1), tokens)));
+        return Ok(Some((fit(Tree::False, 1), at)));
     }
     if !is_name(bytes) {
         return Ok(None);
     }
-    let Some(mid) = symbol_at(text, tokens, Sym::LeftParen) else {
-        return Ok(Some((applied(name, no_parts(alloc)), tokens)));
+    let Some(mid) = symbol_at(source, at, Sym::LeftParen) else {
+        return Ok(Some((applied(name, no_parts(source.alloc)), at)));
     };
-    let Some((parts, left)) = inside_parts(alloc, text, room, mid)? else {
+    let Some((parts, left)) = inside_parts(source, room, mid)? else {
         return Ok(None);
     };
     Ok(Some((applied(name, parts), left)))
@@ -283,37 +218,21 @@ fn no_parts(alloc: Global) -> Parts
     }
 }
 
-// Reads formulas with commas between them, and the right parenthesis behind them.
+// Reads formulas with commas between them, and the right parenthesis after them.
 #[cycle(terms)]
-fn inside_parts<'a>(
-    alloc: Global,
-    text: &[u8],
-    room: u8,
-    tokens: &'a [Token],
-) -> Result<Option<(Parts, &'a [Token])>, Memory>
-    requires { Placed text.now tokens.now }
-    ensures is { IfOk result (λ answer. MatchOption answer
-        (reading.closed symbols.RightParen (reading.list_at (reading.formula depth_limit room) symbols.Comma (lexemes text.now tokens.now)) ≡ None)
-        (λ found. Gives text.now (reading.read_map reading.all_of
-        (reading.closed symbols.RightParen (reading.list_at (reading.formula depth_limit room) symbols.Comma (lexemes text.now tokens.now))))
-        (terms_given text.now found.0) found.1.now)) }
-    ensures left { IfOk result (λ answer. IfSome answer (λ found. IsPlacedParts text.now found.0 × Behind text.now tokens.now found.1.now)) }
+fn inside_parts(source: &Source, room: u8, at: usize) -> Read<Parts>
+    ensures is { IfOk result (GivesMade source.now reading.all_of
+        (reading.closed symbols.RightParen (reading.list_at (reading.formula depth_limit room) symbols.Comma (ahead source.now at)))
+        (terms_given source.now.text.now)) }
+    ensures left { IfOk result (Leaves (IsPlacedParts source.now.text.now) at) }
 {
     if room == 0 {
         return Ok(None);
     }
-    let Some((parts, behind)) = read_parts(
-        alloc,
-        text,
-        room - 1,
-        Level::Formula,
-        Sym::Comma,
-        tokens,
-    )?
-    else {
+    let Some((parts, after)) = read_parts(source, room - 1, Level::Formula, Sym::Comma, at)? else {
         return Ok(None);
     };
-    let Some(left) = symbol_at(text, behind, Sym::RightParen) else {
+    let Some(left) = symbol_at(source, after, Sym::RightParen) else {
         return Ok(None);
     };
     Ok(Some((parts, left)))
@@ -321,27 +240,23 @@ fn inside_parts<'a>(
 
 // Reads terms of a level with separators between them.
 #[cycle(terms)]
-pub(crate) fn read_parts<'a>(
-    alloc: Global,
-    text: &[u8],
+pub(crate) fn read_parts(
+    source: &Source,
     room: u8,
     of: Level,
     separator: Sym,
-    tokens: &'a [Token],
-) -> Result<Option<(Parts, &'a [Token])>, Memory>
-    requires { Placed text.now tokens.now }
-    ensures is { IfOk result (λ answer. MatchOption answer
-        (reading.list_at (level of room) separator (lexemes text.now tokens.now) ≡ None)
-        (λ found. Gives text.now (reading.read_map reading.all_of (reading.list_at (level of room) separator (lexemes text.now tokens.now)))
-        (terms_given text.now found.0) found.1.now)) }
-    ensures left { IfOk result (λ answer. IfSome answer (λ found. IsPlacedParts text.now found.0 × Behind text.now tokens.now found.1.now)) }
+    at: usize,
+) -> Read<Parts>
+    ensures is { IfOk result (GivesMade source.now reading.all_of (reading.list_at (level of room) separator (ahead source.now at))
+        (terms_given source.now.text.now)) }
+    ensures left { IfOk result (Leaves (IsPlacedParts source.now.text.now) at) }
 {
-    let mut parts = no_parts(alloc);
-    let mut rest = tokens;
-    while let Some((part, behind)) = read_level(alloc, text, room, of, rest)? {
+    let mut parts = no_parts(source.alloc);
+    let mut rest = at;
+    while let Some((part, after)) = read_level(source, room, of, rest)? {
         parts = with_part(parts, part)?;
-        let Some(left) = symbol_at(text, behind, separator) else {
-            return Ok(Some((parts, behind)));
+        let Some(left) = symbol_at(source, after, separator) else {
+            return Ok(Some((parts, after)));
         };
         rest = left;
     }

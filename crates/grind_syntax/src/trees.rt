@@ -93,7 +93,7 @@ pub(crate) fn applied(name: Name, parts: Parts) -> Option<Built>
     fit(Tree::Apply(name, trees), depth + 1)
 }
 
-// The parts with one more behind them.
+// The parts with one more after them.
 pub(crate) fn with_part(parts: Parts, part: Option<Built>) -> Result<Parts, Memory>
     ensures is { IfOk result (λ more. (text : List ℕ) → terms_given text more
         ≡ with_last (terms_given text parts) (term_given text part)) }
@@ -144,7 +144,7 @@ pub(crate) fn with_signs(
     Ok(whole)
 }
 
-// The sides of operators that associate to the right, with the last one behind them.
+// The sides of operators that associate to the right, with the last one after them.
 pub(crate) fn joined(
     alloc: Global,
     sides: List<Side>,

@@ -21,16 +21,16 @@ returns-in_default-word_at-clause-is c = inside_none (level levels.Sum c.args.ro
 
 pub returns-then-not-is_same-clause-is : goal.returns-then-not-is_same-clause-is
 returns-then-not-is_same-clause-is c =
-    let other : bytes_eq (name_of c.args.text.now c.in-Some-word_at.name) (codes "pattern") ≡ false = cc in
+    let other : bytes_eq (name_of c.args.source.now.text.now c.in-Some-word_at.name) (codes "pattern") ≡ false = cc in
     inside_word (level levels.Sum c.args.room) _ _ _ c.in-Some-word_at.ensures.is other
 
 pub returns-in_default-2-clause-is : goal.returns-in_default-2-clause-is
 returns-in_default-2-clause-is c =
-    let is : bytes_eq (name_of c.args.text.now c.in-Some-word_at.name) (codes "pattern") ≡ true = cc in
+    let is : bytes_eq (name_of c.args.source.now.text.now c.in-Some-word_at.name) (codes "pattern") ≡ true = cc in
     inside_patterns (level levels.Sum c.args.room) _ _ _ c.in-Some-word_at.ensures.is is
     ∙ map_none patterns_of _ (rw c.in_default-2.is at c.in_ok-annot.ensures.is)
 
 pub returns-clause-is : goal.returns-clause-is
 returns-clause-is c =
-    let is : bytes_eq (name_of c.args.text.now c.in-Some-word_at.name) (codes "pattern") ≡ true = cc in
+    let is : bytes_eq (name_of c.args.source.now.text.now c.in-Some-word_at.name) (codes "pattern") ≡ true = cc in
     inside_patterns (level levels.Sum c.args.room) _ _ _ c.in-Some-word_at.ensures.is is ∙ (rw c.in-Some-2.is at c.in_ok-annot.ensures.is)

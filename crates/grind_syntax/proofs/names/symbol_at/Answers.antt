@@ -1,18 +1,19 @@
 use Rattle.std.proofs.Common.{◌≡◌, ◌∷◌, List, rules}
-use Rattle.grind_grammar.specs.Lexemes.{Lexeme, Symbol, lexemes}
+use Rattle.grind_grammar.specs.Lexemes.{Lexeme, Symbol}
+use Rattle.grind_syntax.specs.Sources.{ahead}
 use Rattle.grind_syntax.proofs.Fronts.{symbol_front, no_symbol_front}
 use Rattle.grind_syntax.proofs.names.symbol_at.Goals as goal
 
-pub returns-in_default-clause-is : goal.returns-in_default-clause-is
-returns-in_default-clause-is c =
-    no_symbol_front c.args.sym (lexemes c.args._text.now c.args.tokens.now) (λ rest e. c.in_default.ensures.is c.args.sym rest e)
+pub returns-in_err-found-clause-is : goal.returns-in_err-found-clause-is
+returns-in_err-found-clause-is c =
+    rw c.from_residual.ensures (no_symbol_front c.args.sym (ahead c.args.source.now c.args.at) (λ rest e. c.in_err-found.ensures.is c.args.sym rest e))
 
 pub returns-then-eq-clause-is : goal.returns-then-eq-clause-is
 returns-then-eq-clause-is c =
-    let is : lexemes c.args._text.now c.args.tokens.now ≡ Symbol c.args.sym ∷ lexemes c.args._text.now c.in-Some.left.now = search rules in
-    symbol_front c.args.sym (lexemes c.args._text.now c.args.tokens.now) _ is
+    let is : ahead c.args.source.now c.args.at ≡ Symbol c.args.sym ∷ ahead c.args.source.now c.in_ok-found.left = search rules in
+    symbol_front c.args.sym (ahead c.args.source.now c.args.at) _ is
 
 pub returns-clause-is : goal.returns-clause-is
 returns-clause-is c =
-    let not : (rest : List Lexeme) → lexemes c.args._text.now c.args.tokens.now ≡ Symbol c.args.sym ∷ rest → ⊥ = search rules in
-    no_symbol_front c.args.sym (lexemes c.args._text.now c.args.tokens.now) not
+    let not : (rest : List Lexeme) → ahead c.args.source.now c.args.at ≡ Symbol c.args.sym ∷ rest → ⊥ = search rules in
+    no_symbol_front c.args.sym (ahead c.args.source.now c.args.at) not

@@ -4,8 +4,8 @@ use Rattle.grind_syntax.proofs.names.word_at.Goals as goal
 
 pub returns-in_default-clause-is : goal.returns-in_default-clause-is
 returns-in_default-clause-is c =
-    no_word_front c.args.text.now c.args.tokens.now c.in_ok-token.left.now c.in_ok-token.token.now c.in_ok-token.ensures.cases.0 c.in_default.not-Word
+    no_word_front c.args.source.now.text.now _ _ c.in_ok-token.token.now c.in_ok-token.ensures.is c.in_default.not-Word
 
 pub returns-clause-is : goal.returns-clause-is
 returns-clause-is c =
-    kind_front c.args.text.now c.args.tokens.now c.in_ok-token.left.now c.in_ok-token.token.now c.in_ok-token.ensures.cases.0 kinds.Word c.in-Word.is
+    kind_front c.args.source.now.text.now _ _ c.in_ok-token.token.now c.in_ok-token.ensures.is kinds.Word c.in-Word.is

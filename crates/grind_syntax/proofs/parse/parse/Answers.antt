@@ -6,7 +6,7 @@ use Rattle.grind_grammar.specs.Reading.{judged}
 use Rattle.grind_syntax.specs.Places.{Placed}
 use Rattle.grind_syntax.specs.KeptDeclarations.{declaration_kept, IsPlacedDeclaration}
 use Rattle.grind_syntax.specs.Refusals.{FileSoFar}
-use Rattle.grind_syntax.proofs.FileLemmas.{placed_pieces, undotted_piece, keeps_declarations, file_begin, file_more, file_end, refused_here, refused_at_end, first_is_bad, end_is_bad}
+use Rattle.grind_syntax.proofs.FileLemmas.{placed_pieces, cut_lexemes, cut_shorter, cut_placed, undotted_piece, keeps_declarations, file_begin, file_more, file_end, refused_here, refused_at_end, first_is_bad, end_is_bad}
 use Rattle.grind_syntax.proofs.parse.parse.Goals as goal
 
 pub loop-rest-init : goal.loop-rest-init
@@ -37,7 +37,7 @@ pub returns-in-Err-clause-refused : goal.returns-in-Err-clause-refused
 returns-in-Err-clause-refused c =
     let text = c.args.text.now in
     let piece = lexemes text c.split_at_dot.result.0.now in
-    let split = rw c.in-Some.is at c.split_at_dot.ensures.is in
+    let split = cut_lexemes text c.loop-rest.rest.now c.split_at_dot.result.0.now c.in-Some.left.now (rw c.in-Some.is at c.split_at_dot.ensures.is) in
     refused_here (lexemes text c.args.tokens.now) (judged piece) (c.loop-rest.count + 1) c.in-Err.refusal c.in-Err.ensures.refused
     (λ fault bad. first_is_bad text (lexemes text c.args.tokens.now) c.loop-rest.decls (lexemes text c.loop-rest.rest.now) c.loop-rest.count piece
     (lexemes text c.in-Some.left.now) fault c.loop-rest.invariant.so_far (undotted_piece text c.split_at_dot.result.0.now c.split_at_dot.ensures.undotted)
@@ -47,9 +47,9 @@ pub loop-rest-preserved : goal.loop-rest-preserved
 loop-rest-preserved c =
     let text = c.args.text.now in
     let piece = lexemes text c.split_at_dot.result.0.now in
-    let split = rw c.in-Some.is at c.split_at_dot.ensures.is in
-    let left = rw c.in-Some.is at c.split_at_dot.ensures.left in
-    let shorter : length c.in-Some.left.now < length c.loop-rest.rest.now = left.fewer in
+    let cut = rw c.in-Some.is at c.split_at_dot.ensures.is in
+    let split = cut_lexemes text c.loop-rest.rest.now c.split_at_dot.result.0.now c.in-Some.left.now cut in
+    let shorter = cut_shorter c.loop-rest.rest.now c.split_at_dot.result.0.now c.in-Some.left.now cut in
     let counts = c.loop-rest.invariant.counts in
     record {
       so_far = file_more text (lexemes text c.args.tokens.now) c.loop-rest.decls c.push.new.self (lexemes text c.loop-rest.rest.now) c.loop-rest.count piece
@@ -59,7 +59,7 @@ loop-rest-preserved c =
       kept = subst (All (IsPlacedDeclaration text)) (sym c.in_ok-push.ensures.ok)
           (All-append (IsPlacedDeclaration text) c.loop-rest.decls _ c.loop-rest.invariant.kept
           (All-cons (IsPlacedDeclaration text) c.in-Ok.kept [] c.in-Ok.ensures.placed (All-nil (IsPlacedDeclaration text))));
-      placed = left.placed;
+      placed = cut_placed text c.loop-rest.rest.now c.split_at_dot.result.0.now c.in-Some.left.now cut c.loop-rest.invariant.placed;
       counts = omega arith;
     }
 
