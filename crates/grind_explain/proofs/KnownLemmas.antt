@@ -1,12 +1,12 @@
--- Lines that tell the first edges of a closure.
-use Rattle.std.specs.Prelude.{◌≡◌, ◌≢◌, ℕ, zero, suc, ◌+◌, ◌<◌, ◌≤◌, List, [], ◌∷◌, ◌++◌, Option, Some, All, length, slice_get, take, get_or, refl}
+-- Lines that tell the edges which an equality needs.
+use Rattle.std.specs.Prelude.{◌≡◌, ◌≢◌, ℕ, zero, suc, ◌+◌, ◌<◌, Bool, List, [], ◌∷◌, ◌++◌, Option, Some, All, length, slice_get, get_or, refl}
 use Rattle.std.specs.List.{AllZip}
 use Rattle.std.specs.Option.{IsSomeAnd}
 use Rattle.std.proofs.Common.{arith, sym, ap, ◌∙◌, subst, inl, inr, append_assoc}
 use Rattle.std.proofs.lemmas.Bool.{cases_eq}
 use Rattle.std.proofs.lemmas.List.{append-nil}
-use Rattle.std.proofs.lemmas.List.Elements.{All-nil, All-cons, All-head, All-tail, All-same, All-weaker}
-use Rattle.std.proofs.lemmas.Option.{slice_get-get_or}
+use Rattle.std.proofs.lemmas.List.Elements.{All-nil, All-cons, All-head, All-tail}
+use Rattle.std.proofs.lemmas.Option.{slice_get-get_or, get_or_from_slice_get}
 use Rattle.grind_term_graph.specs.declared.node.Node.{Node}
 use Rattle.grind_term_graph.specs.Terms.{Terms}
 use Rattle.grind_schemes.specs.Goals.{GoalData}
@@ -20,28 +20,18 @@ use Rattle.grind_rules.specs.Rules.{SayEqual, IsCong}
 use Rattle.grind_classes.specs.Classes.{IsActive, AreTogether}
 use Rattle.grind_congruence.specs.declared.edge.Edge.{Edge}
 use Rattle.grind_congruence.specs.Congruence.{Congruence, Fits}
-use Rattle.grind_congruence.specs.Edges.{Leads, Joins, AreClassesOf}
-use Rattle.grind_congruence.proofs.EdgeLemmas.{All-at, Joins-all, Leads-below, Leads-take, slice_get-more, slice_get-last}
+use Rattle.grind_congruence.specs.Edges.{Joins}
+use Rattle.grind_explain.specs.declared.pairs.Pair.{Pair}
+use Rattle.grind_explain.specs.declared.plan.Plan.{Plan}
 use Rattle.grind_explain.specs.declared.why.Why.{Why}
 use Rattle.grind_explain.specs.declared.why.Why.TheVariants as why
 use Rattle.grind_proof_writer.specs.Lines.{IsReady, IsUsable, Tells, Appends}
-use Rattle.grind_proof_writer.proofs.ListLemmas.{one_more}
-use Rattle.grind_explain.specs.Explained.{AreJoinedWithin, IsReason, HasReasons, IsFewest}
-use Rattle.grind_explain.specs.Deriving.{IsKnown, AreKnown, AreTold, IsBound, IsHalfTold, AreKnownSoFar}
+use Rattle.grind_explain.specs.Explained.{AreJoinedWithin, IsReason, HasReasons}
+use Rattle.grind_explain.specs.Deriving.{HasNumber, KeepsNumbers, IsNeeded, IsCovered, AreWays, AreLines, Goes, IsKnown, AreKnown, IsGiven, AreTold, AreHalfTold, AreKnownSoFar}
 use Rattle.grind_proof_writer.proofs.LineLemmas.{Appends-none, Appends-through, Tells-stays, IsUsable-tells, claim_at-tells}
 use Rattle.grind_explain.proofs.ChainLemmas.{IsKnown-stays}
-
--- what some of the edges join is together
-pub together_from_joins : (closure : Congruence) (k a b : ℕ) → AreClassesOf closure.lists closure.edges → IsActive closure.lists a →
-    IsActive closure.lists b → Joins closure.edges k a b → AreTogether closure.lists a b
-together_from_joins closure k a b tied left right way =
-    (tied.led a b left right).1 ((Joins-all closure.edges a b).1 (way.0, Leads-take closure.edges k way.0 a b way.1))
-
--- places below the number of known edges are known
-pub known_below : (proof : Proof) (branch : ℕ) (edges : List Edge) (known places : List ℕ) → AreKnown proof branch edges known →
-    All (λ place. place < length known) places → All (IsKnown proof branch edges known) places
-known_below proof branch edges known places told below =
-    All-weaker (λ place. place < length known) (IsKnown proof branch edges known) (λ place less. told place less) places below
+use Rattle.grind_explain.proofs.JoinLemmas.{All-others, zip_others}
+use Rattle.grind_explain.proofs.NotedLemmas.{Goes-none, Goes-through}
 
 -- the same terms, after lines were put behind a proof
 pub Fits-appends : (lemmas : Lemmas) (goal : GoalData) (old new : Proof) (branch : ℕ) (closure : Congruence) →
@@ -49,50 +39,73 @@ pub Fits-appends : (lemmas : Lemmas) (goal : GoalData) (old new : Proof) (branch
 Fits-appends lemmas goal old new branch closure grown fits =
     subst (λ (terms : Terms). Fits closure terms.nodes) (sym grown.terms) fits
 
-pub AreKnown-stays : (lemmas : Lemmas) (goal : GoalData) (old new : Proof) (branch : ℕ) (edges : List Edge) (known : List ℕ) →
-    Appends lemmas goal old new branch → AreKnown old branch edges known → AreKnown new branch edges known
-AreKnown-stays lemmas goal old new branch edges known grown h place below =
-    IsKnown-stays lemmas goal old new branch edges known place grown (h place below)
+IsReason-stays : (lemmas : Lemmas) (goal : GoalData) (old new : Proof) (branch : ℕ) (edges : List Edge) (place : ℕ) (edge : Edge) (reason : Why) →
+    Appends lemmas goal old new branch → IsReason old branch edges place edge reason → IsReason new branch edges place edge reason
+IsReason-stays lemmas goal old new branch edges place edge (why.Line number) grown h =
+    Tells-stays lemmas goal old new branch number (Same edge.left edge.right) grown h
+IsReason-stays lemmas goal old new branch edges place edge why.Congruence grown h =
+    subst (λ (terms : Terms). AreJoinedWithin terms.nodes edges place edge.left edge.right) (sym grown.terms) h
 
--- the first of those of which it holds
-pub All-first : (P : ℕ → Type 0) (rest tail : List ℕ) (x : ℕ) → rest ≡ x ∷ tail → All P rest → P x
-All-first P rest tail x is all = All-head P x tail (All-same P (x ∷ tail) rest (sym is) all)
+HasReasons-stays : (lemmas : Lemmas) (goal : GoalData) (old new : Proof) (branch : ℕ) (edges : List Edge) (whys : List Why) (count : ℕ) →
+    Appends lemmas goal old new branch → HasReasons old branch edges whys count → HasReasons new branch edges whys count
+HasReasons-stays lemmas goal old new branch edges whys count grown h place edge below stands =
+    some_and_then (IsReason old branch edges place edge) (IsReason new branch edges place edge) (slice_get whys edge.why)
+    (λ reason. IsReason-stays lemmas goal old new branch edges place edge reason grown) (h place edge below stands)
 
-All-others : (P : ℕ → Type 0) (rest tail : List ℕ) (x : ℕ) → rest ≡ x ∷ tail → All P rest → All P tail
-All-others P rest tail x is all = All-tail P x tail (All-same P (x ∷ tail) rest (sym is) all)
+-- what is given stays so
+pub IsGiven-stays : (lemmas : Lemmas) (goal : GoalData) (old new : Proof) (branch : ℕ) (closure : Congruence) (whys : List Why) (plan : Plan) →
+    Appends lemmas goal old new branch → IsGiven closure whys plan branch old → IsGiven closure whys plan branch new
+IsGiven-stays lemmas goal old new branch closure whys plan grown h = record {
+  fits = Fits-appends lemmas goal old new branch closure grown h.fits;
+  reasons = HasReasons-stays lemmas goal old new branch closure.edges whys (length plan.needed) grown h.reasons;
+  covers = λ place. subst (λ (terms : Terms). IsCovered terms.nodes closure.edges whys plan place) (sym grown.terms) (h.covers place);
+  ways = h.ways;
+}
 
-zip_others : (R : ℕ → ℕ → Type 0) (left left_tail right right_tail : List ℕ) (a b : ℕ) → left ≡ a ∷ left_tail → right ≡ b ∷ right_tail →
-    AllZip R left right → AllZip R left_tail right_tail
-zip_others R left left_tail right right_tail a b left_is right_is h =
-    (subst (λ (ys : List ℕ). AllZip R (a ∷ left_tail) ys) right_is (subst (λ (xs : List ℕ). AllZip R xs right) left_is h)).1
+-- more is known where more is noted
+pub AreKnown-stays : (edges : List Edge) (needed : List Bool) (told later : List (Pair × ℕ)) (count : ℕ) → KeepsNumbers told later →
+    AreKnown edges needed told count → AreKnown edges needed later count
+AreKnown-stays edges needed told later count keeps h place below is = IsKnown-stays edges told later place keeps (h place below is)
+
+-- the needed places below the number of first edges that are known
+pub known_all : (edges : List Edge) (needed : List Bool) (told : List (Pair × ℕ)) (count : ℕ) (places : List ℕ) → AreKnown edges needed told count →
+    All (λ place. place < count) places → All (IsNeeded needed) places → All (IsKnown edges told) places
+known_all edges needed told count [] h below is = All-nil (IsKnown edges told)
+known_all edges needed told count (place ∷ places) h below is =
+    All-cons (IsKnown edges told) place places
+    (h place (All-head (λ p. p < count) place places below) (All-head (IsNeeded needed) place places is))
+    (known_all edges needed told count places h (All-tail (λ p. p < count) place places below) (All-tail (IsNeeded needed) place places is))
 
 -- one more pair is told
-pub IsHalfTold-step : (lemmas : Lemmas) (goal : GoalData) (old now new : Proof) (branch : ℕ) (closure : Congruence)
-    (known lefts rights left left_tail right right_tail numbers longer : List ℕ) (a b number : ℕ) →
+pub AreHalfTold-step : (lemmas : Lemmas) (goal : GoalData) (old now new : Proof) (before told later : List (Pair × ℕ)) (branch : ℕ)
+    (closure : Congruence) (whys : List Why) (plan : Plan) (place : ℕ)
+    (lefts rights left left_tail right right_tail numbers longer : List ℕ) (a b number : ℕ) →
     left ≡ a ∷ left_tail → right ≡ b ∷ right_tail → longer ≡ numbers ++ number ∷ [] →
-    IsHalfTold lemmas goal old now branch closure known lefts rights left right numbers →
-    Appends lemmas goal now new branch → IsReady lemmas goal new branch → Tells new branch number (Same a b) →
-    IsHalfTold lemmas goal old new branch closure known lefts rights left_tail right_tail longer
-IsHalfTold-step lemmas goal old now new branch closure known lefts rights left left_tail right right_tail numbers longer a b number
-    left_is right_is longer_is h grown ready tells = record {
+    AreHalfTold lemmas goal old now before told branch closure whys plan place lefts rights left right numbers →
+    Appends lemmas goal now new branch → IsReady lemmas goal new branch → Goes now told new later → AreLines new branch later →
+    Tells new branch number (Same a b) →
+    AreHalfTold lemmas goal old new before later branch closure whys plan place lefts rights left_tail right_tail longer
+AreHalfTold-step lemmas goal old now new before told later branch closure whys plan place lefts rights left left_tail right right_tail numbers
+    longer a b number left_is right_is longer_is h grown ready goes lines tells = record {
       appends = Appends-through lemmas goal old now new branch h.appends grown;
+      goes = Goes-through old now new before told later h.goes goes;
       ready = ready;
-      fits = Fits-appends lemmas goal now new branch closure grown h.fits;
-      edges_known = AreKnown-stays lemmas goal now new branch closure.edges known grown h.edges_known;
-      left_active = All-others (IsActive closure.lists) left left_tail a left_is h.left_active;
-      right_active = All-others (IsActive closure.lists) right right_tail b right_is h.right_active;
-      joined = zip_others (Joins closure.edges (length known)) left left_tail right right_tail a b left_is right_is h.joined;
-      told = λ later more behind rest.
-          let whole : AreTold later branch (a ∷ left_tail) (b ∷ right_tail) (number ∷ more) =
-          (Tells-stays lemmas goal new later branch number (Same a b) behind tells, rest) in
-          let there : AreTold later branch left right (number ∷ more) =
-          subst (λ (xs : List ℕ). AreTold later branch xs right (number ∷ more)) (sym left_is)
-          (subst (λ (ys : List ℕ). AreTold later branch (a ∷ left_tail) ys (number ∷ more)) (sym right_is) whole) in
-          let all : AreTold later branch lefts rights (numbers ++ (number ∷ more)) =
-          h.told later (number ∷ more) (Appends-through lemmas goal now new later branch grown behind) there in
-          let same : longer ++ more ≡ numbers ++ (number ∷ more) =
+      lines = lines;
+      given = IsGiven-stays lemmas goal now new branch closure whys plan grown h.given;
+      edges_known = AreKnown-stays closure.edges plan.needed told later place goes.keeps h.edges_known;
+      active = All-others (IsActive closure.lists) left left_tail a left_is h.active;
+      joined = zip_others (Joins closure.edges place) left left_tail right right_tail a b left_is right_is h.joined;
+      planned = zip_others (HasNumber plan.pairs) left left_tail right right_tail a b left_is right_is h.planned;
+      told_all = λ final more behind rest.
+          let whole : AreTold final branch (a ∷ left_tail) (b ∷ right_tail) (number ∷ more) =
+          (Tells-stays lemmas goal new final branch number (Same a b) behind tells, rest) in
+          let all : AreTold final branch lefts rights (numbers ++ number ∷ more) =
+          h.told_all final (number ∷ more) (Appends-through lemmas goal now new final branch grown behind)
+          (subst (λ (xs : List ℕ). AreTold final branch xs right (number ∷ more)) (sym left_is)
+          (subst (λ (ys : List ℕ). AreTold final branch (a ∷ left_tail) ys (number ∷ more)) (sym right_is) whole)) in
+          let same : longer ++ more ≡ numbers ++ number ∷ more =
           ap (λ (ns : List ℕ). ns ++ more) longer_is ∙ append_assoc numbers (number ∷ []) more in
-          subst (λ (ns : List ℕ). AreTold later branch lefts rights ns) (sym same) all;
+          subst (λ (ns : List ℕ). AreTold final branch lefts rights ns) (sym same) all;
     }
 
 none_told : (R : ℕ → ℕ → Type 0) (proof : Proof) (branch : ℕ) (left right : List ℕ) → length left ≡ 0 → AllZip R left right →
@@ -102,13 +115,13 @@ none_told R proof branch [] (b ∷ right) none h = absurd h
 none_told R proof branch (a ∷ left) right none h = absurd (omega arith)
 
 -- once no pair is left
-pub IsHalfTold-end : (lemmas : Lemmas) (goal : GoalData) (old now : Proof) (branch : ℕ) (closure : Congruence)
-    (known lefts rights left right numbers : List ℕ) → length left ≡ 0 →
-    IsHalfTold lemmas goal old now branch closure known lefts rights left right numbers → AreTold now branch lefts rights numbers
-IsHalfTold-end lemmas goal old now branch closure known lefts rights left right numbers none h =
+pub AreHalfTold-end : (lemmas : Lemmas) (goal : GoalData) (old now : Proof) (before told : List (Pair × ℕ)) (branch : ℕ) (closure : Congruence)
+    (whys : List Why) (plan : Plan) (place : ℕ) (lefts rights left right numbers : List ℕ) → length left ≡ 0 →
+    AreHalfTold lemmas goal old now before told branch closure whys plan place lefts rights left right numbers → AreTold now branch lefts rights numbers
+AreHalfTold-end lemmas goal old now before told branch closure whys plan place lefts rights left right numbers none h =
     subst (λ (ns : List ℕ). AreTold now branch lefts rights ns) (append-nil numbers)
-    (h.told now [] (Appends-none lemmas goal now branch h.ready.typed)
-    (none_told (Joins closure.edges (length known)) now branch left right none h.joined))
+    (h.told_all now [] (Appends-none lemmas goal now branch h.ready.typed)
+    (none_told (Joins closure.edges place) now branch left right none h.joined))
 
 -- lines that tell pairs may be used
 pub AreTold-usable : (proof : Proof) (branch : ℕ) (lefts rights numbers : List ℕ) → AreTold proof branch lefts rights numbers →
@@ -169,7 +182,7 @@ IsCong-told old new branch edges count a b lefts rights numbers terms joined lef
 some_at : {X : Type 0} (P : X → Type 0) (found : Option X) (x : X) → found ≡ Some x → IsSomeAnd found P → P x
 some_at {X = X} P found x is h = subst (λ (o : Option X). IsSomeAnd o P) is h
 
-within_of_some : {X : Type 0} (P : X → Type 0) (xs : List X) (i : ℕ) → IsSomeAnd (slice_get xs i) P → i < length xs
+pub within_of_some : {X : Type 0} (P : X → Type 0) (xs : List X) (i : ℕ) → IsSomeAnd (slice_get xs i) P → i < length xs
 within_of_some P [] i h = absurd h
 within_of_some P (x ∷ xs) zero h = omega arith
 within_of_some P (x ∷ xs) (suc i) h = let below = within_of_some P xs i h in omega arith
@@ -181,118 +194,93 @@ reason_read P whys number other reason is h =
     subst P is
     (some_at P (slice_get whys number) (get_or whys number other) (slice_get-get_or whys number other (within_of_some P whys number h)) h)
 
--- a reason stays one
-IsReason-stays : (lemmas : Lemmas) (goal : GoalData) (old new : Proof) (branch : ℕ) (edges : List Edge) (place : ℕ) (edge : Edge) (reason : Why) →
-    Appends lemmas goal old new branch → IsReason old branch edges place edge reason → IsReason new branch edges place edge reason
-IsReason-stays lemmas goal old new branch edges place edge (why.Line number) grown h =
-    Tells-stays lemmas goal old new branch number (Same edge.left edge.right) grown h
-IsReason-stays lemmas goal old new branch edges place edge why.Congruence grown h =
-    subst (λ (terms : Terms). AreJoinedWithin terms.nodes edges place edge.left edge.right) (sym grown.terms) h
-
-HasReasons-stays : (lemmas : Lemmas) (goal : GoalData) (old new : Proof) (branch : ℕ) (edges : List Edge) (whys : List Why) (count : ℕ) →
-    Appends lemmas goal old new branch → HasReasons old branch edges whys count → HasReasons new branch edges whys count
-HasReasons-stays lemmas goal old new branch edges whys count grown h place edge below stands =
-    some_and_then (IsReason old branch edges place edge) (IsReason new branch edges place edge) (slice_get whys edge.why)
-    (λ reason. IsReason-stays lemmas goal old new branch edges place edge reason grown) (h place edge below stands)
-
--- the edge that is read at the next place
-pub stands_next : (edges read_edges : List Edge) (known read_known : List ℕ) (place count : ℕ) (read : Edge) → read_edges ≡ edges →
-    read_known ≡ known → length known ≡ place → place < count → count ≤ length edges → read ≡ get_or read_edges place read →
-    slice_get edges (length read_known) ≡ Some read
-stands_next edges read_edges known read_known place count read same same_known long below within is =
-    let number : length read_known ≡ place = ap length same_known ∙ long in
-    let value : read ≡ get_or edges place read = is ∙ ap (λ (es : List Edge). get_or es place read) same in
-    subst (λ (n : ℕ). slice_get edges n ≡ Some read) (sym number)
-    (slice_get-get_or edges place read (omega arith) ∙ ap Some (sym value))
-
--- an edge goes between active nodes
-pub ends_active : (closure : Congruence) (place : ℕ) (edge : Edge) → AreClassesOf closure.lists closure.edges →
-    slice_get closure.edges place ≡ Some edge → IsActive closure.lists edge.left × IsActive closure.lists edge.right
-ends_active closure place edge tied stands =
-    All-at (λ (e : Edge). IsActive closure.lists e.left × IsActive closure.lists e.right) closure.edges place edge tied.ends stands
-
--- the first edges are begun
-pub AreKnownSoFar-start : (lemmas : Lemmas) (goal : GoalData) (proof : Proof) (branch : ℕ) (closure : Congruence) (whys : List Why) (count : ℕ) →
-    IsReady lemmas goal proof branch → Fits closure proof.terms.nodes → HasReasons proof branch closure.edges whys count →
-    AreKnownSoFar lemmas goal proof proof branch closure whys count 0 []
-AreKnownSoFar-start lemmas goal proof branch closure whys count ready fits reasons = record {
-  appends = Appends-none lemmas goal proof branch ready.typed;
+-- one more of the first edges is passed
+pub AreKnownSoFar-step : (lemmas : Lemmas) (goal : GoalData) (old now new : Proof) (before told later : List (Pair × ℕ)) (branch : ℕ)
+    (closure : Congruence) (whys : List Why) (plan : Plan) (place : ℕ) →
+    AreKnownSoFar lemmas goal old now before told branch closure whys plan place →
+    Appends lemmas goal now new branch → IsReady lemmas goal new branch → Goes now told new later → AreLines new branch later →
+    (IsNeeded plan.needed place → IsKnown closure.edges later place) →
+    AreKnownSoFar lemmas goal old new before later branch closure whys plan (place + 1)
+AreKnownSoFar-step lemmas goal old now new before told later branch closure whys plan place h grown ready goes lines here = record {
+  appends = Appends-through lemmas goal old now new branch h.appends grown;
+  goes = Goes-through old now new before told later h.goes goes;
   ready = ready;
-  fits = fits;
-  reasons = reasons;
-  long = refl;
-  edges_known = λ place below. absurd (omega arith);
+  lines = lines;
+  given = IsGiven-stays lemmas goal now new branch closure whys plan grown h.given;
+  edges_known = λ p below is. elim (cases_eq p place) [
+    | inl same ↦ subst (IsKnown closure.edges later) (sym same) (here (subst (IsNeeded plan.needed) same is))
+    | inr other ↦ IsKnown-stays closure.edges told later p goes.keeps (h.edges_known p (omega arith) is)
+  ];
 }
 
--- and one more of them is told
-pub AreKnownSoFar-step : (lemmas : Lemmas) (goal : GoalData) (old now new : Proof) (branch : ℕ) (closure : Congruence) (whys : List Why)
-    (count place number : ℕ) (known longer : List ℕ) (edge : Edge) → slice_get closure.edges (length known) ≡ Some edge →
-    longer ≡ known ++ number ∷ [] → AreKnownSoFar lemmas goal old now branch closure whys count place known →
-    Appends lemmas goal now new branch → IsReady lemmas goal new branch → Tells new branch number (Same edge.left edge.right) →
-    AreKnownSoFar lemmas goal old new branch closure whys count (place + 1) longer
-AreKnownSoFar-step lemmas goal old now new branch closure whys count place number known longer edge stands longer_is h grown ready tells =
-    let more : List ℕ = known ++ number ∷ [] in
-    let long : length more ≡ length known + 1 = one_more known number in
-    let all : AreKnown new branch closure.edges more = λ p below. elim (cases_eq p (length known)) [
-      | inl here ↦ subst (IsKnown new branch closure.edges more) (sym here) (number, edge, slice_get-last known number, stands, tells)
-      | inr other ↦
-          let before = IsKnown-stays lemmas goal now new branch closure.edges known p grown (h.edges_known p (omega arith)) in
-          (before.0, before.1, slice_get-more known (number ∷ []) p before.0 before.2, before.3, before.4)
-    ] in
+pub AreKnownSoFar-start : (lemmas : Lemmas) (goal : GoalData) (proof : Proof) (told : List (Pair × ℕ)) (branch : ℕ) (closure : Congruence)
+    (whys : List Why) (plan : Plan) → IsReady lemmas goal proof branch → AreLines proof branch told → IsGiven closure whys plan branch proof →
+    AreKnownSoFar lemmas goal proof proof told told branch closure whys plan 0
+AreKnownSoFar-start lemmas goal proof told branch closure whys plan ready lines given = record {
+  appends = Appends-none lemmas goal proof branch ready.typed;
+  goes = Goes-none proof told;
+  ready = ready;
+  lines = lines;
+  given = given;
+  edges_known = λ place below is. absurd (omega arith);
+}
+
+-- the first pair of two rows
+pub zip_first : (R : ℕ → ℕ → Type 0) (left left_tail right right_tail : List ℕ) (a b : ℕ) → left ≡ a ∷ left_tail → right ≡ b ∷ right_tail →
+    AllZip R left right → R a b
+zip_first R left left_tail right right_tail a b left_is right_is h =
+    (subst (λ (ys : List ℕ). AllZip R (a ∷ left_tail) ys) right_is (subst (λ (xs : List ℕ). AllZip R xs right) left_is h)).0
+
+-- before the first pair
+pub AreHalfTold-start : (lemmas : Lemmas) (goal : GoalData) (proof : Proof) (told : List (Pair × ℕ)) (branch : ℕ)
+    (closure : Congruence) (whys : List Why) (plan : Plan) (place : ℕ) (lefts rights numbers : List ℕ) → numbers ≡ [] →
+    IsReady lemmas goal proof branch → AreLines proof branch told → IsGiven closure whys plan branch proof →
+    AreKnown closure.edges plan.needed told place → All (IsActive closure.lists) lefts → AllZip (Joins closure.edges place) lefts rights →
+    AllZip (HasNumber plan.pairs) lefts rights →
+    AreHalfTold lemmas goal proof proof told told branch closure whys plan place lefts rights lefts rights numbers
+AreHalfTold-start lemmas goal proof told branch closure whys plan place lefts rights numbers none ready lines given known active joined planned =
     record {
-      appends = Appends-through lemmas goal old now new branch h.appends grown;
+      appends = Appends-none lemmas goal proof branch ready.typed;
+      goes = Goes-none proof told;
       ready = ready;
-      fits = Fits-appends lemmas goal now new branch closure grown h.fits;
-      reasons = HasReasons-stays lemmas goal now new branch closure.edges whys count grown h.reasons;
-      long = ap length longer_is ∙ long ∙ ap (λ n. n + 1) h.long;
-      edges_known = subst (λ (ns : List ℕ). AreKnown new branch closure.edges ns) (sym longer_is) all;
+      lines = lines;
+      given = given;
+      edges_known = known;
+      active = active;
+      joined = joined;
+      planned = planned;
+      told_all = λ later more grown all. subst (λ (ns : List ℕ). AreTold later branch lefts rights (ns ++ more)) (sym none) all;
     }
 
-slice_get-front : {X : Type 0} (xs : List X) (k i : ℕ) (x : X) → i < k → slice_get xs i ≡ Some x → slice_get (take k xs) i ≡ Some x
-slice_get-front [] k i x below e = absurd cc
-slice_get-front (y ∷ xs) zero i x below e = absurd (omega arith)
-slice_get-front (y ∷ xs) (suc k) zero x below e = e
-slice_get-front (y ∷ xs) (suc k) (suc i) x below e = slice_get-front xs k i x (omega arith) e
+-- what is read of the ways is the way of that number
+pub way_read : (ways read_ways : List (List ℕ)) (n : ℕ) (read places slice : List ℕ) → read_ways ≡ ways → slice_get ways n ≡ Some places →
+    read ≡ get_or read_ways n read → slice ≡ read → slice ≡ places
+way_read ways read_ways n read places slice same stands is slice_is =
+    slice_is ∙ is ∙ ap (λ (ws : List (List ℕ)). get_or ws n read) same ∙ get_or_from_slice_get ways n places read stands
 
--- a way of places below a number is one along the first edges
-Leads-front : (edges : List Edge) (k : ℕ) (places : List ℕ) (a b : ℕ) → All (λ place. place < k) places → Leads edges places a b →
-    Leads (take k edges) places a b
-Leads-front edges k [] a b below e = e
-Leads-front edges k (place ∷ places) a b below (edge, mid, stands, passes, rest) =
-    let P : ℕ → Type 0 = λ p. p < k in (
-      edge,
-      mid,
-      slice_get-front edges k place edge (All-head P place places below) stands,
-      passes,
-      Leads-front edges k places mid b (All-tail P place places below) rest,
-    )
-
--- the bound of a first way is the fewest edges that join
-pub fewest_of_way : (edges : List Edge) (places : List ℕ) (count a b : ℕ) → Leads edges places a b →
-    ((k : ℕ) → Joins edges k a b → All (λ place. place < k) places) → IsBound places count → IsFewest edges count a b
-fewest_of_way edges places count a b leads among bound = record {
-  joins = (places, Leads-front edges count places a b bound.above leads);
-  fewest = λ k joins. bound.least k (among k joins);
+-- what a plan gives
+pub IsGiven-start : (closure : Congruence) (whys one two : List Why) (plan : Plan) (branch : ℕ) (proof : Proof) → one ≡ whys → two ≡ whys →
+    Fits closure proof.terms.nodes → HasReasons proof branch closure.edges whys (length plan.needed) →
+    ((place : ℕ) → IsCovered proof.terms.nodes closure.edges one plan place) → AreWays closure.edges plan → IsGiven closure two plan branch proof
+IsGiven-start closure whys one two plan branch proof first second fits reasons covers ways = record {
+  fits = fits;
+  reasons = subst (λ (ws : List Why). HasReasons proof branch closure.edges ws (length plan.needed)) (sym second) reasons;
+  covers = λ place. subst (λ (ws : List Why). IsCovered proof.terms.nodes closure.edges ws plan place) (first ∙ sym second) (covers place);
+  ways = ways;
 }
 
--- and there are so many
-pub bound_within : (edges : List Edge) (places : List ℕ) (count a b : ℕ) → Leads edges places a b → IsBound places count → count ≤ length edges
-bound_within edges places count a b leads bound = bound.least (length edges) (Leads-below edges places a b leads)
-
--- the places of a way are known, where so many edges as their bound are
-pub known_all : (proof : Proof) (branch : ℕ) (edges read_edges : List Edge) (known read_known places read_places : List ℕ) (count : ℕ) →
-    read_edges ≡ edges → read_known ≡ known → read_places ≡ places → length known ≡ count → AreKnown proof branch edges known →
-    IsBound places count → All (IsKnown proof branch read_edges read_known) read_places
-known_all proof branch edges read_edges known read_known places read_places count same_edges same_known same_places long told bound =
-    let below : All (λ place. place < length known) places =
-    subst (λ (n : ℕ). All (λ place. place < n) places) (sym long) bound.above in
-    let all : All (IsKnown proof branch edges known) places = known_below proof branch edges known places told below in
-    subst (λ (es : List Edge). All (IsKnown proof branch es read_known) read_places) (sym same_edges)
-    (subst (λ (ns : List ℕ). All (IsKnown proof branch edges ns) read_places) (sym same_known)
-    (subst (λ (ps : List ℕ). All (IsKnown proof branch edges known) ps) (sym same_places) all))
+-- a reason that is read stands there
+pub reason_stands : (whys : List Why) (number : ℕ) (reason : Why) → number < length whys → get_or whys number (why.Line 0) ≡ reason →
+    slice_get whys number ≡ Some reason
+reason_stands whys number reason below is = slice_get-get_or whys number (why.Line 0) below ∙ ap Some is
 
 -- a node of a class stands among the terms, which are still the same
 pub within_appends : (lemmas : Lemmas) (goal : GoalData) (old new : Proof) (branch : ℕ) (closure : Congruence) (a b : ℕ) →
-    Appends lemmas goal old new branch → Fits closure old.terms.nodes → AreTogether closure.lists a b → a < length new.terms.nodes
+    Appends lemmas goal old new branch → Fits closure old.terms.nodes → AreTogether closure.lists a b → b < length new.terms.nodes
 within_appends lemmas goal old new branch closure a b grown fits both =
-    (Fits-appends lemmas goal old new branch closure grown fits).within a (both.0, both.1)
+    (Fits-appends lemmas goal old new branch closure grown fits).within b (both.0, both.2)
+
+-- a known edge
+pub IsKnown-read : (edges : List Edge) (told : List (Pair × ℕ)) (place : ℕ) (read : Edge) → slice_get edges place ≡ Some read →
+    HasNumber told read.left read.right → IsKnown edges told place
+IsKnown-read edges told place read stands has = (read, stands, has)

@@ -1,9 +1,10 @@
 -- What an explanation of an equality needs.
-use Rattle.std.specs.Prelude.{◌≡◌, ℕ, ◌<◌, ◌≤◌, List, [], Some, slice_get}
+use Rattle.std.specs.Prelude.{◌≡◌, ℕ, ◌<◌, ◌≤◌, List, [], ◌∷◌, ◌++◌, Some, All, length, slice_get}
 use Rattle.std.specs.List.{AllZip}
 use Rattle.std.specs.Option.{IsSomeAnd}
 use Rattle.grind_term_graph.specs.declared.node.Node.{Node}
 use Rattle.grind_claims.specs.declared.claim.Claim.TheVariants.{Same}
+use Rattle.grind_claims.specs.declared.proof.Line.{Line}
 use Rattle.grind_claims.specs.declared.proof.Proof.{Proof}
 use Rattle.grind_proof_writer.specs.Lines.{Tells}
 use Rattle.grind_congruence.specs.declared.edge.Edge.{Edge}
@@ -37,3 +38,16 @@ HasReasons proof branch edges whys count =
 pub record IsFewest (edges : List Edge) (count a b : ℕ) : Type 0 where
   pub joins : Joins edges count a b
   pub fewest : (k : ℕ) → Joins edges k a b → count ≤ k
+
+-- no two of the lines claim the same
+abbrev pub DifferInClaims : List Line → Type 0
+DifferInClaims [] = Unit {0}
+DifferInClaims (line ∷ lines) = All (λ (other : Line). ¬ (other.claim ≡ line.claim)) lines × DifferInClaims lines
+
+-- the new proof has lines after those of the old one no two of which claim the same, and at most two more
+pub record IsBrief (old new : Proof) : Type 0 where
+  pub lines : List Line
+  pub last : List Line
+  pub after : new.lines ≡ old.lines ++ (lines ++ last)
+  pub differ : DifferInClaims lines
+  pub short : length last ≤ 2

@@ -1,15 +1,16 @@
 //! The explanation of one equality.
-ghost use Rattle.std.specs.Prelude.{ℕ, ◌<◌, ◌↔◌, IsTrue, IfOk, length};
+ghost use Rattle.std.specs.Prelude.{ℕ, ◌+◌, ◌<◌, ◌≤◌, ◌↔◌, IsTrue, IfOk, OnOk, length};
 ghost use Rattle.grind_claims.specs.declared.claim.Claim.TheVariants.{Same};
 ghost use Rattle.grind_classes.specs.Classes.{AreTogether};
 ghost use Rattle.grind_congruence.specs.Congruence.{Fits};
-ghost use Rattle.grind_proof_writer.specs.Lines.{IsReady, Tells, Appends, EndsWith};
+ghost use Rattle.grind_proof_writer.specs.Lines.{IsReady, Appends, EndsWith};
 ghost use Rattle.grind_proof_writer.specs.Writing.{CanWrite, Writes, IsTold};
-ghost use Rattle.grind_explain.specs.Explained.{IsFewest, HasReasons};
-ghost use Rattle.grind_explain.specs.Deriving.{IsBound, IsLast};
+ghost use Rattle.grind_explain.specs.Explained.{IsFewest, HasReasons, IsBrief};
+ghost use Rattle.grind_explain.specs.Deriving.{IsLast};
 
-use crate::chain::Way;
 use crate::known::Course;
+use crate::pairs::Pairs;
+use crate::plan::Planner;
 use crate::why::Why;
 use grind_congruence::Closure;
 use grind_outside::{List, Memory};
@@ -21,11 +22,11 @@ use std::alloc::Global;
 
 /// Derives in a branch that two nodes of one class are equal, and answers the number of the line that claims it, which is
 /// then the last. `whys` has for each number of a fact why it holds; the least number of first edges that join the two
-/// nodes is to have reasons there.
+/// nodes is to have reasons there. No equality is written twice, but for at most two lines at the end.
 ///
 /// # Errors
 ///
-/// `Memory`. Some typed lines of the branch may stand behind the proof then.
+/// `Memory`. Some typed lines of the branch may stand after the proof then.
 pub fn explain(
     alloc: Global,
     closure: &Closure,
@@ -45,6 +46,7 @@ pub fn explain(
     ensures appends { Appends lemmas.now goal.now proof.old proof.new branch }
     ensures ready { IsReady lemmas.now goal.now proof.new branch }
     ensures last { IfOk result (λ number. EndsWith proof.new branch number (Same a b)) }
+    ensures brief { OnOk result (IsBrief proof.old proof.new) }
 {
     let writer = Writer {
         alloc,
@@ -52,27 +54,27 @@ pub fn explain(
         goal,
         branch,
     };
+    let planner = Planner {
+        alloc,
+        closure,
+        whys: whys.as_slice(),
+        terms: &proof.terms,
+    };
+    let plan = planner.plan_of(a, b)?;
     let course = Course {
         writer: &writer,
         closure,
         whys: whys.as_slice(),
+        plan: &plan,
     };
-    let edges = closure.edges();
-    let places = closure.path(alloc, a, b)?;
-    let count = bound_of(places.as_slice());
-    let known = course.known_lines(proof, count)?;
-    let way = Way {
-        writer: &writer,
-        edges,
-        known: known.as_slice(),
-    };
-    let number = way.chain(proof, places.as_slice(), a, b)?;
-    let told = Equality {
+    let mut told = Pairs::new(alloc);
+    let number = course.line_of(proof, &mut told, a, b)?;
+    let equality = Equality {
         line: number,
         left: a,
         right: b,
     };
-    let last = at_the_end(&writer, proof, &told)?;
+    let last = at_the_end(&writer, proof, &equality)?;
     Ok(last)
 }
 
@@ -84,6 +86,7 @@ fn at_the_end(writer: &Writer, proof: &mut Proof, told: &Equality) -> Result<u32
     ensures writes { Writes writer.now proof.old proof.new }
     ensures ready { CanWrite writer.now proof.new }
     ensures ends { IfOk result (λ last. EndsWith proof.new writer.now.branch last (Same told.now.left told.now.right)) }
+    ensures short { OnOk result (length proof.new.lines ≤ length proof.old.lines + 2) }
 {
     if is_last(proof, writer.branch, told.line) {
         return Ok(told.line);
@@ -108,20 +111,4 @@ fn is_last(proof: &Proof, branch: u32, number: u32) -> bool
         return false;
     }
     lines[number as usize].branch == branch
-}
-
-// The least number above all of these.
-fn bound_of(places: &[u32]) -> usize
-    ensures { IsBound places.now result }
-{
-    let mut bound = 0;
-    let mut rest = places;
-    while let Some((place, tail)) = rest.split_first() {
-        let above = *place as usize + 1;
-        if bound < above {
-            bound = above;
-        }
-        rest = tail;
-    }
-    bound
 }

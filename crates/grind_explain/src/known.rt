@@ -1,20 +1,22 @@
-//! Lines that tell the first edges of a closure.
-ghost use Rattle.std.specs.Prelude.{◌≡◌, ℕ, ◌<◌, ◌≤◌, All, IfOk, Some, length, slice_get};
+//! Lines that tell the edges which an equality needs.
+ghost use Rattle.std.specs.Prelude.{◌≡◌, ℕ, ◌<◌, ◌≤◌, All, IfOk, OnOk, Some, length, slice_get};
 ghost use Rattle.std.specs.List.{AllZip};
-ghost use Rattle.std.specs.Option.{IsSomeAnd};
 ghost use Rattle.grind_term_graph.specs.declared.node.Node.{Node};
 ghost use Rattle.grind_claims.specs.declared.claim.Claim.TheVariants.{Same};
+ghost use Rattle.grind_claims.specs.declared.proof.Rule.TheVariants.{Cong};
+ghost use Rattle.grind_claims.specs.Claims.{IsFormed};
 ghost use Rattle.grind_classes.specs.Classes.{IsActive};
-ghost use Rattle.grind_congruence.specs.Congruence.{Fits};
 ghost use Rattle.grind_congruence.specs.Edges.{Joins};
-ghost use Rattle.grind_proof_writer.specs.Lines.{Tells, EndsWith};
-ghost use Rattle.grind_proof_writer.specs.Writing.{CanWrite, Writes};
-ghost use Rattle.grind_explain.specs.Explained.{AreJoinedWithin, IsReason, HasReasons};
-ghost use Rattle.grind_explain.specs.Deriving.{AreKnown, AreTold};
+ghost use Rattle.grind_proof_writer.specs.Lines.{Tells, IsUsable};
+ghost use Rattle.grind_proof_writer.specs.Writing.{CanWrite, Writes, MayWrite};
+ghost use Rattle.grind_explain.specs.Explained.{AreJoinedWithin};
+ghost use Rattle.grind_explain.specs.Deriving.{IsNeeded, HasNumber, HasWaysFor, AreLines, Goes, IsKnown, AreKnown, IsGiven, AreTold};
 
 use crate::chain::Way;
+use crate::pairs::Pairs;
+use crate::plan::{Plan, is_needed};
 use crate::why::Why;
-use grind_congruence::{Closure, Edge};
+use grind_congruence::Closure;
 use grind_outside::{List, Memory};
 use grind_proof_kernel::{Claim, Proof, Rule};
 use grind_proof_writer::Writer;
@@ -30,97 +32,168 @@ pub(crate) struct Course<'a> {
     pub(crate) closure: &'a Closure,
     // Why the facts of its edges hold.
     pub(crate) whys: &'a [Why],
+    // Which edges are needed, and the ways.
+    pub(crate) plan: &'a Plan,
 }
 
 impl<'a> Course<'a> {
-    // Derives the equalities of the first edges, so many of them, and answers the numbers of the lines that tell them.
-    pub(crate) fn known_lines(&self, proof: &mut Proof, count: usize) -> Result<List<u32>, Memory>
+    // A line that tells that the two nodes are equal for which all is planned.
+    pub(crate) fn line_of(
+        &self,
+        proof: &mut Proof,
+        told: &mut Pairs,
+        a: NodeId,
+        b: NodeId,
+    ) -> Result<u32, Memory>
         requires ready { CanWrite self.now.writer.now proof.old }
-        requires fits { Fits self.now.closure.now proof.old.terms.nodes }
-        requires count { count ≤ length self.now.closure.now.edges }
-        requires reasons { HasReasons proof.old self.now.writer.now.branch self.now.closure.now.edges self.now.whys.now count }
+        requires lines { AreLines proof.old self.now.writer.now.branch told.old }
+        requires given { IsGiven self.now.closure.now self.now.whys.now self.now.plan.now self.now.writer.now.branch proof.old }
+        requires count { length self.now.plan.now.needed ≤ length self.now.closure.now.edges }
+        requires active { IsActive self.now.closure.now.lists a }
+        requires joined { Joins self.now.closure.now.edges (length self.now.plan.now.needed) a b }
+        requires planned { HasNumber self.now.plan.now.pairs a b }
         ensures writes { Writes self.now.writer.now proof.old proof.new }
         ensures ready { CanWrite self.now.writer.now proof.new }
-        ensures length { IfOk result (λ known. length known ≡ count) }
-        ensures known { IfOk result (λ known. AreKnown proof.new self.now.writer.now.branch self.now.closure.now.edges known) }
+        ensures goes { OnOk result (Goes proof.old told.old proof.new told.new) }
+        ensures tells { IfOk result (λ number. Tells proof.new self.now.writer.now.branch number (Same a b)) }
     {
-        let edges = self.closure.edges();
-        let mut known = List::new(self.writer.alloc);
-        for place in 0..count {
-            let edge = &edges[place];
-            let number = self.line_of_edge(proof, known.as_slice(), edge)?;
-            known.push(number)?;
-        }
-        Ok(known)
+        self.tell_needed(proof, told)?;
+        let count = self.plan.needed.len();
+        let number = self.line_of_arg(proof, told, count, a, b)?;
+        Ok(number)
     }
 
-    // A line that tells the next edge: the one that is named as its reason, or a new one.
-    fn line_of_edge(&self, proof: &mut Proof, known: &[u32], edge: &Edge) -> Result<u32, Memory>
+    // Derives the equalities of the needed edges, from the first one up.
+    fn tell_needed(&self, proof: &mut Proof, told: &mut Pairs) -> Result<(), Memory>
         requires ready { CanWrite self.now.writer.now proof.old }
-        requires fits { Fits self.now.closure.now proof.old.terms.nodes }
-        requires known { AreKnown proof.old self.now.writer.now.branch self.now.closure.now.edges known.now }
-        requires left { IsActive self.now.closure.now.lists edge.now.left }
-        requires right { IsActive self.now.closure.now.lists edge.now.right }
-        requires stands { slice_get self.now.closure.now.edges (length known.now) ≡ Some edge.now }
-        requires reason { IsSomeAnd (slice_get self.now.whys.now edge.now.why)
-            (IsReason proof.old self.now.writer.now.branch self.now.closure.now.edges (length known.now) edge.now) }
+        requires lines { AreLines proof.old self.now.writer.now.branch told.old }
+        requires given { IsGiven self.now.closure.now self.now.whys.now self.now.plan.now self.now.writer.now.branch proof.old }
+        requires count { length self.now.plan.now.needed ≤ length self.now.closure.now.edges }
         ensures writes { Writes self.now.writer.now proof.old proof.new }
         ensures ready { CanWrite self.now.writer.now proof.new }
-        ensures tells { IfOk result (λ number.
-            Tells proof.new self.now.writer.now.branch number (Same edge.now.left edge.now.right)) }
+        ensures goes { OnOk result (Goes proof.old told.old proof.new told.new) }
+        ensures lines { OnOk result (AreLines proof.new self.now.writer.now.branch told.new) }
+        ensures given { OnOk result (IsGiven self.now.closure.now self.now.whys.now self.now.plan.now self.now.writer.now.branch proof.new) }
+        ensures known { OnOk result (AreKnown self.now.closure.now.edges self.now.plan.now.needed told.new (length self.now.plan.now.needed)) }
     {
+        let count = self.plan.needed.len();
+        for place in 0..count {
+            self.tell_place(proof, told, place)?;
+        }
+        Ok(())
+    }
+
+    // Derives the equality of the edge at a place, if it is needed.
+    fn tell_place(&self, proof: &mut Proof, told: &mut Pairs, place: usize) -> Result<(), Memory>
+        requires ready { CanWrite self.now.writer.now proof.old }
+        requires lines { AreLines proof.old self.now.writer.now.branch told.old }
+        requires given { IsGiven self.now.closure.now self.now.whys.now self.now.plan.now self.now.writer.now.branch proof.old }
+        requires before { AreKnown self.now.closure.now.edges self.now.plan.now.needed told.old place }
+        requires place { place < length self.now.plan.now.needed }
+        requires count { length self.now.plan.now.needed ≤ length self.now.closure.now.edges }
+        ensures writes { Writes self.now.writer.now proof.old proof.new }
+        ensures ready { CanWrite self.now.writer.now proof.new }
+        ensures goes { OnOk result (Goes proof.old told.old proof.new told.new) }
+        ensures lines { OnOk result (AreLines proof.new self.now.writer.now.branch told.new) }
+        ensures known { OnOk result (IsNeeded self.now.plan.now.needed place → IsKnown self.now.closure.now.edges told.new place) }
+    {
+        if !is_needed(self.plan.needed.as_slice(), place) {
+            return Ok(());
+        }
+        let edges = self.closure.edges();
+        let edge = &edges[place];
         match self.whys[edge.why as usize] {
-            Why::Line(number) => Ok(number),
+            Why::Line(number) => {
+                told.note(edge.left, edge.right, number)?;
+                Ok(())
+            }
             Why::Congruence => {
-                let number = self.line_of_pair(proof, known, edge.left, edge.right)?;
-                Ok(number)
+                self.tell_pair(proof, told, place, edge.left, edge.right)?;
+                Ok(())
             }
         }
     }
 
-    // A line that two nodes are equal, whose arguments the known edges join.
-    fn line_of_pair(
+    // Derives that two nodes are equal, whose arguments edges before a place join.
+    fn tell_pair(
         &self,
         proof: &mut Proof,
-        known: &[u32],
+        told: &mut Pairs,
+        place: usize,
         left: NodeId,
         right: NodeId,
-    ) -> Result<u32, Memory>
+    ) -> Result<(), Memory>
         requires ready { CanWrite self.now.writer.now proof.old }
-        requires fits { Fits self.now.closure.now proof.old.terms.nodes }
+        requires lines { AreLines proof.old self.now.writer.now.branch told.old }
+        requires given { IsGiven self.now.closure.now self.now.whys.now self.now.plan.now self.now.writer.now.branch proof.old }
+        requires before { AreKnown self.now.closure.now.edges self.now.plan.now.needed told.old place }
         requires left { IsActive self.now.closure.now.lists left }
         requires right { IsActive self.now.closure.now.lists right }
-        requires known { AreKnown proof.old self.now.writer.now.branch self.now.closure.now.edges known.now }
-        requires joined { AreJoinedWithin proof.old.terms.nodes self.now.closure.now.edges (length known.now) left right }
+        requires joined { AreJoinedWithin proof.old.terms.nodes self.now.closure.now.edges place left right }
+        requires planned { HasWaysFor proof.old.terms.nodes self.now.plan.now.pairs left right }
         ensures writes { Writes self.now.writer.now proof.old proof.new }
         ensures ready { CanWrite self.now.writer.now proof.new }
-        ensures ends { IfOk result (λ number. EndsWith proof.new self.now.writer.now.branch number (Same left right)) }
+        ensures goes { OnOk result (Goes proof.old told.old proof.new told.new) }
+        ensures lines { OnOk result (AreLines proof.new self.now.writer.now.branch told.new) }
+        ensures has { OnOk result (HasNumber told.new left right) }
     {
         let alloc = self.writer.alloc;
         let lefts = args_of(alloc, &proof.terms, left)?;
         let rights = args_of(alloc, &proof.terms, right)?;
-        let premises = self.lines_of_args(proof, known, lefts.as_slice(), rights.as_slice())?;
-        let claim = Claim::Same(left, right);
-        let number = self.writer.put(proof, Rule::Cong, premises, claim)?;
-        Ok(number)
+        let premises = self.lines_of_args(proof, told, place, lefts.as_slice(), rights.as_slice())?;
+        self.put_pair(proof, told, premises, left, right)?;
+        Ok(())
     }
 
-    // Lines that tell that these nodes are equal to those, one by one, along ways of known edges.
+    // Writes that two nodes are equal by congruence, unless a line tells it.
+    fn put_pair(
+        &self,
+        proof: &mut Proof,
+        told: &mut Pairs,
+        premises: List<u32>,
+        left: NodeId,
+        right: NodeId,
+    ) -> Result<(), Memory>
+        requires ready { CanWrite self.now.writer.now proof.old }
+        requires lines { AreLines proof.old self.now.writer.now.branch told.old }
+        requires formed { IsFormed proof.old.terms.nodes (Same left right) }
+        requires usable { All (IsUsable proof.old self.now.writer.now.branch) premises }
+        requires allowed { MayWrite self.now.writer.now proof.old Cong premises (Same left right) }
+        ensures writes { Writes self.now.writer.now proof.old proof.new }
+        ensures ready { CanWrite self.now.writer.now proof.new }
+        ensures goes { OnOk result (Goes proof.old told.old proof.new told.new) }
+        ensures lines { OnOk result (AreLines proof.new self.now.writer.now.branch told.new) }
+        ensures has { OnOk result (HasNumber told.new left right) }
+    {
+        if let Some(_) = told.find(left, right) {
+            return Ok(());
+        }
+        let claim = Claim::Same(left, right);
+        let number = self.writer.put(proof, Rule::Cong, premises, claim)?;
+        told.put(left, right, number)?;
+        Ok(())
+    }
+
+    // Lines that tell that these nodes are equal to those, one by one, along planned ways before a place.
     fn lines_of_args(
         &self,
         proof: &mut Proof,
-        known: &[u32],
+        told: &mut Pairs,
+        place: usize,
         lefts: &[NodeId],
         rights: &[NodeId],
     ) -> Result<List<u32>, Memory>
         requires ready { CanWrite self.now.writer.now proof.old }
-        requires fits { Fits self.now.closure.now proof.old.terms.nodes }
-        requires known { AreKnown proof.old self.now.writer.now.branch self.now.closure.now.edges known.now }
-        requires left { All (IsActive self.now.closure.now.lists) lefts.now }
-        requires right { All (IsActive self.now.closure.now.lists) rights.now }
-        requires joined { AllZip (Joins self.now.closure.now.edges (length known.now)) lefts.now rights.now }
+        requires lines { AreLines proof.old self.now.writer.now.branch told.old }
+        requires given { IsGiven self.now.closure.now self.now.whys.now self.now.plan.now self.now.writer.now.branch proof.old }
+        requires before { AreKnown self.now.closure.now.edges self.now.plan.now.needed told.old place }
+        requires active { All (IsActive self.now.closure.now.lists) lefts.now }
+        requires joined { AllZip (Joins self.now.closure.now.edges place) lefts.now rights.now }
+        requires planned { AllZip (HasNumber self.now.plan.now.pairs) lefts.now rights.now }
         ensures writes { Writes self.now.writer.now proof.old proof.new }
         ensures ready { CanWrite self.now.writer.now proof.new }
+        ensures goes { OnOk result (Goes proof.old told.old proof.new told.new) }
+        ensures lines { OnOk result (AreLines proof.new self.now.writer.now.branch told.new) }
         ensures told { IfOk result (λ numbers. AreTold proof.new self.now.writer.now.branch lefts.now rights.now numbers) }
     {
         let mut numbers = List::new(self.writer.alloc);
@@ -130,7 +203,7 @@ impl<'a> Course<'a> {
             let Some((b, right_tail)) = right.split_first() else {
                 return Ok(numbers);
             };
-            let number = self.line_of_arg(proof, known, *a, *b)?;
+            let number = self.line_of_arg(proof, told, place, *a, *b)?;
             numbers.push(number)?;
             left = left_tail;
             right = right_tail;
@@ -138,33 +211,39 @@ impl<'a> Course<'a> {
         Ok(numbers)
     }
 
-    // A line that tells that two nodes are equal, along a way of known edges.
-    fn line_of_arg(
+    // A line that tells that two nodes are equal, along their way, whose edges stand before a place.
+    pub(crate) fn line_of_arg(
         &self,
         proof: &mut Proof,
-        known: &[u32],
+        told: &mut Pairs,
+        _place: usize,
         a: NodeId,
         b: NodeId,
     ) -> Result<u32, Memory>
         requires ready { CanWrite self.now.writer.now proof.old }
-        requires fits { Fits self.now.closure.now proof.old.terms.nodes }
-        requires known { AreKnown proof.old self.now.writer.now.branch self.now.closure.now.edges known.now }
-        requires left { IsActive self.now.closure.now.lists a }
-        requires right { IsActive self.now.closure.now.lists b }
-        requires joined { Joins self.now.closure.now.edges (length known.now) a b }
+        requires lines { AreLines proof.old self.now.writer.now.branch told.old }
+        requires given { IsGiven self.now.closure.now self.now.whys.now self.now.plan.now self.now.writer.now.branch proof.old }
+        requires before { AreKnown self.now.closure.now.edges self.now.plan.now.needed told.old _place }
+        requires active { IsActive self.now.closure.now.lists a }
+        requires joined { Joins self.now.closure.now.edges _place a b }
+        requires planned { HasNumber self.now.plan.now.pairs a b }
         ensures writes { Writes self.now.writer.now proof.old proof.new }
         ensures ready { CanWrite self.now.writer.now proof.new }
+        ensures goes { OnOk result (Goes proof.old told.old proof.new told.new) }
+        ensures lines { OnOk result (AreLines proof.new self.now.writer.now.branch told.new) }
         ensures tells { IfOk result (λ number. Tells proof.new self.now.writer.now.branch number (Same a b)) }
     {
-        let edges = self.closure.edges();
-        let places = self.closure.path(self.writer.alloc, a, b)?;
+        if let Some(number) = told.find(a, b) {
+            return Ok(number);
+        }
+        let number = self.plan.pairs.number_of(a, b);
+        let places = &self.plan.ways.as_slice()[number as usize];
         let way = Way {
             writer: self.writer,
-            edges,
-            known,
+            edges: self.closure.edges(),
         };
-        let number = way.chain(proof, places.as_slice(), a, b)?;
-        Ok(number)
+        let line = way.chain(proof, told, places.as_slice(), a, b)?;
+        Ok(line)
     }
 }
 

@@ -4,6 +4,8 @@
 mod chain;
 pub mod explanation;
 mod known;
+mod pairs;
+mod plan;
 pub mod why;
 
 pub use explanation::explain;

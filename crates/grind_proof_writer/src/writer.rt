@@ -70,6 +70,7 @@ impl<'a> Writer<'a> {
         ensures unchanged { OnErr result (proof.new ≡ proof.old) }
         ensures writes { Writes self.now proof.old proof.new }
         ensures ready { CanWrite self.now proof.new }
+        ensures next { IfOk result (λ number. number ≡ length proof.old.lines) }
         ensures ends { IfOk result (λ number. EndsWith proof.new self.now.branch number claim) }
     {
         typed_lines_stay();
@@ -94,6 +95,7 @@ impl<'a> Writer<'a> {
         requires allowed { MayWrite self.now proof.old rule [] claim }
         ensures writes { Writes self.now proof.old proof.new }
         ensures ready { CanWrite self.now proof.new }
+        ensures next { IfOk result (λ number. number ≡ length proof.old.lines) }
         ensures ends { IfOk result (λ number. EndsWith proof.new self.now.branch number claim) }
     {
         let number = self.put(proof, rule, List::new(self.alloc), claim)?;
@@ -117,6 +119,7 @@ impl<'a> Writer<'a> {
         requires allowed { MayWrite self.now proof.old rule (premise ∷ []) claim }
         ensures writes { Writes self.now proof.old proof.new }
         ensures ready { CanWrite self.now proof.new }
+        ensures next { IfOk result (λ number. number ≡ length proof.old.lines) }
         ensures ends { IfOk result (λ number. EndsWith proof.new self.now.branch number claim) }
     {
         let mut premises = List::new(self.alloc);
@@ -136,6 +139,7 @@ impl<'a> Writer<'a> {
         requires clash { MayWrite self.now proof.old Clash (one ∷ other ∷ []) Absurd }
         ensures writes { Writes self.now proof.old proof.new }
         ensures ready { CanWrite self.now proof.new }
+        ensures next { IfOk result (λ number. number ≡ length proof.old.lines) }
         ensures ends { IfOk result (λ number. EndsWith proof.new self.now.branch number Absurd) }
     {
         let premises = two(self.alloc, one, other)?;
@@ -152,6 +156,7 @@ impl<'a> Writer<'a> {
         requires within { a < length proof.old.terms.nodes }
         ensures writes { Writes self.now proof.old proof.new }
         ensures ready { CanWrite self.now proof.new }
+        ensures next { IfOk result (λ number. number ≡ length proof.old.lines) }
         ensures ends { IfOk result (λ number. EndsWith proof.new self.now.branch number (Same a a)) }
     {
         let number = self.put_alone(proof, Rule::Refl, Claim::Same(a, a))?;
@@ -167,6 +172,7 @@ impl<'a> Writer<'a> {
         requires told { IsTold self.now proof.old told.now }
         ensures writes { Writes self.now proof.old proof.new }
         ensures ready { CanWrite self.now proof.new }
+        ensures next { IfOk result (λ number. number ≡ length proof.old.lines) }
         ensures ends { IfOk result (λ number.
             EndsWith proof.new self.now.branch number (Same told.now.right told.now.left)) }
     {
@@ -191,6 +197,7 @@ impl<'a> Writer<'a> {
         requires meets { first.now.right ≡ second.now.left }
         ensures writes { Writes self.now proof.old proof.new }
         ensures ready { CanWrite self.now proof.new }
+        ensures next { IfOk result (λ number. number ≡ length proof.old.lines) }
         ensures ends { IfOk result (λ number.
             EndsWith proof.new self.now.branch number (Same first.now.left second.now.right)) }
     {

@@ -9,13 +9,13 @@ use Rattle.grind_explain.proofs.chain.Way.go_along.Goals as goal
 pub loop-place-init : goal.loop-place-init
 loop-place-init c =
     let writer = c.args.self.now.writer.now in
-    IsOnWay-start writer.lemmas.now writer.goal.now c.args.proof.now writer.branch c.args.self.now.edges.now c.args.self.now.known.now
-    c.args.places.now c.args.first.now.line c.args.first.now.left c.args.first.now.right c.args._b c.requires.ready c.requires.first
-    c.requires.leads c.requires.known
+    IsOnWay-start writer.lemmas.now writer.goal.now c.args.proof.now c.args.told.now writer.branch c.args.self.now.edges.now
+    c.args.places.now c.args.first.now.line c.args.first.now.left c.args.first.now.right c.args._b c.requires.ready c.requires.lines
+    c.requires.first c.requires.leads c.requires.known
 
 pub go_on-requires-clause-known : goal.go_on-requires-clause-known
 go_on-requires-clause-known c =
-    known_here c.loop-place.proof c.args.self.now.writer.now.branch c.args.self.now.edges.now c.args.self.now.known.now c.loop-place.rest.now
+    known_here c.args.self.now.edges.now c.loop-place.told c.loop-place.rest.now
     c.in-Some.tail.now c.in-Some.place.now c.in-Some.ensures.cases.0 c.loop-place.invariant.edges_known
 
 pub go_on-requires-clause-passes : goal.go_on-requires-clause-passes
@@ -33,9 +33,11 @@ returns-in_err-next-clause-writes c =
 pub loop-place-preserved : goal.loop-place-preserved
 loop-place-preserved c =
     let writer = c.args.self.now.writer.now in
-    IsOnWay-step writer.lemmas.now writer.goal.now c.args.proof.now c.loop-place.proof c.go_on.new.proof writer.branch
-    c.args.self.now.edges.now c.args.self.now.known.now c.loop-place.rest.now c.in-Some.tail.now c.loop-place.number c.in_ok-next.next.line
+    IsOnWay-step writer.lemmas.now writer.goal.now c.args.proof.now c.loop-place.proof c.go_on.new.proof c.args.told.now c.loop-place.told
+    c.go_on.new.told writer.branch
+    c.args.self.now.edges.now c.loop-place.rest.now c.in-Some.tail.now c.loop-place.number c.in_ok-next.next.line
     c.args.first.now.left c.loop-place.here c.in_ok-next.next.right c.args._b c.in-Some.place.now c.in-Some.ensures.cases.0
-    c.in_ok-next.ensures.only c.loop-place.invariant c.in_ok-next.ensures.writes c.in_ok-next.ensures.ready
+    c.in_ok-next.ensures.only c.loop-place.invariant c.in_ok-next.ensures.writes c.in_ok-next.ensures.ready c.in_ok-next.ensures.goes
+    c.in_ok-next.ensures.lines
     (subst (λ (n : ℕ). Tells c.go_on.new.proof writer.branch c.in_ok-next.next.line (Same n c.in_ok-next.next.right)) c.in_ok-next.ensures.left
     c.in_ok-next.ensures.told)

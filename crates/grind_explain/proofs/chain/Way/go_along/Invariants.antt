@@ -4,8 +4,8 @@ use Rattle.grind_explain.proofs.chain.Way.go_along.Given as goal
 
 abbrev pub invariant-loop-place : goal.invariant-loop-place
 invariant-loop-place l =
-    IsOnWay l.fn.self.writer.now.lemmas.now l.fn.self.writer.now.goal.now l.fn.proof l.proof l.fn.self.writer.now.branch l.fn.self.edges.now
-    l.fn.self.known.now l.rest l.number l.a l.here l.fn._b
+    IsOnWay l.fn.self.writer.now.lemmas.now l.fn.self.writer.now.goal.now l.fn.proof l.proof l.fn.told l.told l.fn.self.writer.now.branch
+    l.fn.self.edges.now l.rest l.number l.a l.here l.fn._b
 
 abbrev pub decreases-loop-place : goal.decreases-loop-place
 decreases-loop-place l = length l.rest

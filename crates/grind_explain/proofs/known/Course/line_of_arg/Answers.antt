@@ -1,23 +1,41 @@
-use Rattle.std.specs.Prelude.{ℕ, List, All, length}
+use Rattle.std.specs.Prelude.{◌≡◌, ◌<◌, ℕ, List, All, length}
 use Rattle.std.proofs.Common.{sym, subst}
+use Rattle.std.proofs.lemmas.Option.{slice_get_within}
 use Rattle.grind_congruence.specs.declared.edge.Edge.{Edge}
+use Rattle.grind_congruence.specs.Edges.{Leads}
 use Rattle.grind_explain.specs.Deriving.{IsKnown}
-use Rattle.grind_explain.proofs.KnownLemmas.{together_from_joins, known_below}
+use Rattle.grind_explain.proofs.NotedLemmas.{Goes-none}
+use Rattle.grind_explain.proofs.KnownLemmas.{way_read, known_all}
 use Rattle.grind_explain.proofs.known.Course.line_of_arg.Goals as goal
 
-pub path-requires : goal.path-requires
-path-requires c =
-    together_from_joins c.args.self.now.closure.now (length c.args.known.now) c.args.a c.args.b c.edges-edges.ensures.tied c.requires.left
-    c.requires.right c.requires.joined
+pub returns-in-Some-clause-goes : goal.returns-in-Some-clause-goes
+returns-in-Some-clause-goes c = Goes-none c.args.proof.now c.args.told.now
+
+pub bounds-as_slice-number : goal.bounds-as_slice-number
+bounds-as_slice-number c =
+    let it = c.requires.given.ways c.args.a c.args.b c.number_of-number.result c.number_of-number.ensures in
+    subst (λ (ways : List (List ℕ)). c.number_of-number.result < length ways) (sym c.as_slice.ensures.value)
+    (slice_get_within c.args.self.now.plan.now.ways c.number_of-number.result it.0 it.1)
 
 pub chain-requires-clause-within : goal.chain-requires-clause-within
-chain-requires-clause-within c = c.requires.fits.within c.args.a c.requires.left
+chain-requires-clause-within c = c.requires.given.fits.within c.args.a c.requires.active
 
 pub chain-requires-clause-known : goal.chain-requires-clause-known
 chain-requires-clause-known c =
-    let below = c.in_ok-places.ensures.among (length c.args.known.now) c.requires.joined in
-    let all = known_below c.args.proof.now c.args.self.now.writer.now.branch c.args.self.now.closure.now.edges c.args.known.now c.in_ok-places.places c.requires.known below in
-    subst (λ (edges : List Edge). All (IsKnown c.args.proof.now c.args.self.now.writer.now.branch edges c.args.known.now) c.as_slice.result.now)
-    (sym c.edges-edges.ensures.value)
-    (subst (λ (places : List ℕ). All (IsKnown c.args.proof.now c.args.self.now.writer.now.branch c.args.self.now.closure.now.edges c.args.known.now) places)
-    (sym c.as_slice.ensures.value) all)
+    let it = c.requires.given.ways c.args.a c.args.b c.number_of-number.result c.number_of-number.ensures in
+    let same : c.as_slice-2.result.now ≡ it.0 =
+    way_read c.args.self.now.plan.now.ways c.as_slice.result.now c.number_of-number.result c.index-as_slice-number.result it.0
+    c.as_slice-2.result.now c.as_slice.ensures.value it.1 c.index-as_slice-number.is c.as_slice-2.ensures.value in
+    let all = known_all c.args.self.now.closure.now.edges c.args.self.now.plan.now.needed c.args.told.now c.args._place it.0 c.requires.before
+    (it.2.among c.args._place c.requires.joined) it.3 in
+    subst (λ (edges : List Edge). All (IsKnown edges c.args.told.now) c.as_slice-2.result.now) (sym c.edges.ensures.value)
+    (subst (λ (places : List ℕ). All (IsKnown c.args.self.now.closure.now.edges c.args.told.now) places) (sym same) all)
+
+pub chain-requires-clause-leads : goal.chain-requires-clause-leads
+chain-requires-clause-leads c =
+    let it = c.requires.given.ways c.args.a c.args.b c.number_of-number.result c.number_of-number.ensures in
+    let same : c.as_slice-2.result.now ≡ it.0 =
+    way_read c.args.self.now.plan.now.ways c.as_slice.result.now c.number_of-number.result c.index-as_slice-number.result it.0
+    c.as_slice-2.result.now c.as_slice.ensures.value it.1 c.index-as_slice-number.is c.as_slice-2.ensures.value in
+    subst (λ (edges : List Edge). Leads edges c.as_slice-2.result.now c.args.a c.args.b) (sym c.edges.ensures.value)
+    (subst (λ (places : List ℕ). Leads c.args.self.now.closure.now.edges places c.args.a c.args.b) (sym same) it.2.leads)

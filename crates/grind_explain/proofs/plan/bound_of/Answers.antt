@@ -1,6 +1,6 @@
 use Rattle.std.proofs.Common.{arith}
 use Rattle.grind_explain.proofs.BoundLemmas.{IsBoundSoFar-step}
-use Rattle.grind_explain.proofs.explanation.bound_of.Goals as goal
+use Rattle.grind_explain.proofs.plan.bound_of.Goals as goal
 
 pub loop-place-preserved-then-bound-above : goal.loop-place-preserved-then-bound-above
 loop-place-preserved-then-bound-above c =
