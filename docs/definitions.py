@@ -1,7 +1,9 @@
 #!/usr/bin/env python3
 """Writes docs/DEFINITIONS.md from the comments above the definitions in specs/.
 
-Usage: docs/definitions.py
+Usage: docs/definitions.py [FILE]
+
+Writes to FILE where one is given.
 
 The crates and their files stand in reading order below. A definition without a comment of its own has that of the
 definition before it.
@@ -9,6 +11,7 @@ definition before it.
 
 import os
 import re
+import sys
 
 FILES = {
     "grind_outside": ["NamedFiles", "Outside"],
@@ -56,10 +59,47 @@ FILES = {
     "grind_cli": ["Commands", "TheoryFiles", "Reading", "Answers", "Endings", "Statuses", "Notes"],
 }
 
+# What the clauses of `run` say, each word before those that it rests on.
+FIRST = [
+    ("grind_cli", "Commands", "IsSolve"),
+    ("grind_cli", "Endings", "Ends"),
+    ("grind_cli", "TheoryFiles", "TheoryOf"),
+    ("grind_tokens", "Tokens", "TokensOf"),
+    ("grind_grammar", "Files", "DeclarationsOf"),
+    ("grind_theory", "Theories", "IsTheoryOf"),
+    ("grind_report", "Report", "ReportOf"),
+    ("grind_report", "Blocks", "IsBlockOf"),
+    ("grind_cli", "Answers", "AnswersAll"),
+    ("grind_case_split", "Congruences", "IsAnswered"),
+    ("grind_case_split", "Congruences", "CongruenceEntails"),
+    ("grind_congruence", "Derivable", "Derivable"),
+    ("grind_cli", "Answers", "IsGroundGoal"),
+    ("grind_report", "Blocks", "ProofOf"),
+    ("grind_proof_kernel", "Typing", "Typed"),
+    ("grind_proof_kernel", "Typing", "IsGoodBranch"),
+    ("grind_proof_kernel", "Typing", "TypedLine"),
+    ("grind_rules", "Rules", "RuleAllows"),
+    ("grind_cli", "Answers", "IsTrueEverywhere"),
+    ("grind_value_tables", "Respects", "Respects"),
+    ("grind_value_tables", "Truths", "GoalTrue"),
+    ("grind_cli", "TheoryFiles", "IsRefusedFor"),
+    ("grind_tokens", "Tokens", "Breaks"),
+    ("grind_grammar", "Files", "RefusedAt"),
+    ("grind_theory", "Theories", "RefusedAt"),
+    ("grind_theory", "Faults", "FaultOf"),
+    ("grind_cli", "Notes", "Notes"),
+]
+
 HEAD = """# Definitions
 
-What a reader must believe, in reading order: each definition, one sentence, and its file. Files of
-`specs/` that are not listed here serve private contracts alone. `docs/definitions.py` writes this page.
+What a reader must believe: each definition, one sentence, and its file. First come those by which the contract of `run` speaks,
+then all of them, crate by crate in reading order. Files of `specs/` that are not listed here serve private contracts alone.
+`docs/definitions.py` writes this page.
+
+## What `run` promises
+
+The words of the clauses of `run` (`crates/grind_cli/src/run.rt`), each before those that it rests on: what a file is, what a report
+says of it, when a goal is closed, what its proof is worth, and why a file is refused.
 """
 
 DEFINITION = re.compile(r"(?:(?:abbrev|unfoldable) )?pub (?:abbrev |data |record )?([A-Za-z_][\w\-]*)")
@@ -105,9 +145,19 @@ def definitions(path):
     return " ".join(head), found
 
 
+def first(top):
+    """The table of the definitions under `run`."""
+    rows = []
+    for crate, name, word in FIRST:
+        path = os.path.join("crates", crate, "specs", name + ".antt")
+        texts = dict(definitions(os.path.join(top, path))[1])
+        rows.append(f"| `{word}` | {texts[word]} | `{path}` |")
+    return "| Definition | What it says | File |\n|---|---|---|\n" + "\n".join(rows) + "\n"
+
+
 def page(top):
     """The whole page."""
-    parts = [HEAD]
+    parts = [HEAD, first(top)]
     for crate, files in FILES.items():
         folder = os.path.join(top, "crates", crate, "specs")
         if not os.path.isdir(folder):
@@ -124,7 +174,8 @@ def page(top):
 
 def main():
     docs = os.path.dirname(os.path.abspath(__file__))
-    with open(os.path.join(docs, "DEFINITIONS.md"), "w", encoding="utf-8") as file:
+    to = sys.argv[1] if len(sys.argv) > 1 else os.path.join(docs, "DEFINITIONS.md")
+    with open(to, "w", encoding="utf-8") as file:
         file.write(page(os.path.dirname(docs)))
 
 
