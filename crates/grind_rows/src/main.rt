@@ -3,13 +3,11 @@
 //! A case that is missing, malformed or no text ends the program with a status over 0 and a line on standard error.
 #![tactic(auto)]
 
-mod case;
 mod directives;
-mod proofs;
-mod runs;
 
-use case::Case;
 use directives::follow;
+use grind_cases::case::Case;
+use grind_cases::unfollowed::Unfollowed;
 use grind_outside::{FileShelf, List, Memory, ReadRefusal, Shelf, Sink, StreamSink, write_whole};
 use std::alloc::Global;
 use std::process::ExitCode;
@@ -115,9 +113,10 @@ fn follow_all<R: Threads + Sync>(
     let mut number: usize = 0;
     for line in text.lines() {
         number = number.saturating_add(1);
-        let followed = follow(rt, alloc, &mut case, line, said)?;
-        if !followed {
-            return Err(Trouble::Malformed { line: number });
+        match follow(rt, alloc, &mut case, line, said) {
+            Ok(()) => {}
+            Err(Unfollowed::Malformed) => return Err(Trouble::Malformed { line: number }),
+            Err(Unfollowed::Memory) => return Err(Trouble::Memory),
         }
     }
     Ok(())

@@ -1,7 +1,9 @@
 //! Runs over shelves and sinks in memory.
 ghost use Rattle.std.specs.Prelude.{◌<◌};
 
-use crate::case::{Case, put};
+use crate::case::Case;
+use crate::texts::{put, show_part};
+use crate::unfollowed::Unfollowed;
 use grind_cli::run::run;
 use grind_cli::status::Status;
 use grind_outside::{List, Memory, MemoryShelf, MemorySink, NamedFile};
@@ -30,24 +32,30 @@ struct Left {
     notes: List<u8>,
 }
 
-/// Runs the case once, and shows what came of it. False where a sink would take nothing.
+/// Runs the case once, and shows what came of it.
+///
+/// # Errors
+///
+/// `Malformed` where a sink would take nothing.
 pub fn show_run<R: Threads + Sync>(
     rt: &R,
     alloc: Global,
     case: &Case,
     show: Show,
     said: &mut List<u8>,
-) -> Result<bool, Memory> {
+) -> Result<(), Unfollowed> {
     let failing = copied(alloc, &case.out.failing)?;
-    let Some(left) = left_by(rt, alloc, case, failing)? else {
-        return Ok(false);
-    };
+    let left = left_by(rt, alloc, case, failing)?;
+    show_left(alloc, &left, show, said)?;
+    Ok(())
+}
+
+fn show_left(alloc: Global, left: &Left, show: Show, said: &mut List<u8>) -> Result<(), Memory> {
     match show {
-        Show::All => show_bytes(alloc, &left, said)?,
-        Show::Goals => show_goals(alloc, &left, said)?,
-        Show::Reading => show_reading(alloc, &left, said)?,
+        Show::All => show_bytes(alloc, left, said),
+        Show::Goals => show_goals(alloc, left, said),
+        Show::Reading => show_reading(alloc, left, said),
     }
-    Ok(true)
 }
 
 /// Runs the case, with these calls of the output failing.
@@ -56,9 +64,9 @@ fn left_by<R: Threads + Sync>(
     alloc: Global,
     case: &Case,
     failing: List<u64>,
-) -> Result<Option<Left>, Memory> {
+) -> Result<Left, Unfollowed> {
     if case.out.most == 0 || case.notes.most == 0 {
-        return Ok(None);
+        return Err(Unfollowed::Malformed);
     }
     let mut shelf = shelf_of(alloc, case)?;
     let mut out = MemorySink::new(alloc, case.out.most, failing);
@@ -66,11 +74,11 @@ fn left_by<R: Threads + Sync>(
     let mut notes = MemorySink::new(alloc, case.notes.most, notes_failing);
     let words = case.words.as_slice();
     let status = run(rt, alloc, words, &mut shelf, &mut out, &mut notes);
-    Ok(Some(Left {
+    Ok(Left {
         status,
         out: out.bytes,
         notes: notes.bytes,
-    }))
+    })
 }
 
 /// The shelf of the case.
@@ -92,25 +100,6 @@ fn copied(alloc: Global, numbers: &List<u64>) -> Result<List<u64>, Memory> {
 fn show_status(alloc: Global, status: Status, said: &mut List<u8>) -> Result<(), Memory> {
     let line = format!(in alloc; "status {}\n", status.number())?;
     put(said, line.as_str())
-}
-
-/// Bytes with their number before them, and a line feed behind them where they do not end with one.
-pub fn show_part(
-    alloc: Global,
-    name: &str,
-    bytes: &List<u8>,
-    said: &mut List<u8>,
-) -> Result<(), Memory> {
-    let Some(last) = bytes.as_slice().last() else {
-        return Ok(());
-    };
-    let line = format!(in alloc; "{name}, {} bytes\n", bytes.len())?;
-    put(said, line.as_str())?;
-    said.extend(bytes.as_slice())?;
-    if *last != b'\n' {
-        said.push(b'\n')?;
-    }
-    Ok(())
 }
 
 fn show_bytes(alloc: Global, left: &Left, said: &mut List<u8>) -> Result<(), Memory> {
@@ -138,28 +127,28 @@ fn show_reading(alloc: Global, left: &Left, said: &mut List<u8>) -> Result<(), M
 }
 
 /// Runs the case with call 0 of the output failing, with call 1 failing, and so on, until no call failed, and shows the status and
-/// how many bytes came out each time. False where a sink would take nothing, or the runs do not end.
+/// how many bytes came out each time.
+///
+/// # Errors
+///
+/// `Malformed` where a sink would take nothing, or the runs do not end.
 pub fn show_sweep<R: Threads + Sync>(
     rt: &R,
     alloc: Global,
     case: &Case,
     said: &mut List<u8>,
-) -> Result<bool, Memory> {
-    let Some(whole) = left_by(rt, alloc, case, List::new(alloc))? else {
-        return Ok(false);
-    };
+) -> Result<(), Unfollowed> {
+    let whole = left_by(rt, alloc, case, List::new(alloc))?;
     for call in 0..MOST_RUNS {
         let mut failing = List::new(alloc);
         failing.push(call)?;
-        let Some(left) = left_by(rt, alloc, case, failing)? else {
-            return Ok(false);
-        };
+        let left = left_by(rt, alloc, case, failing)?;
         show_prefix(alloc, call, &whole, &left, said)?;
         if left.status != Status::WriteFault {
-            return Ok(true);
+            return Ok(());
         }
     }
-    Ok(false)
+    Err(Unfollowed::Malformed)
 }
 
 /// One run of a sweep.

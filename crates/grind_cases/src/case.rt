@@ -1,4 +1,5 @@
 //! What a case has asked for so far.
+use crate::unfollowed::Unfollowed;
 use grind_outside::{List, Memory};
 use std::alloc::Global;
 
@@ -67,10 +68,14 @@ impl Case {
         Ok(())
     }
 
-    /// Puts the bytes at the end of the last file, so many times. False where there is no file.
-    pub fn add(&mut self, alloc: Global, bytes: &[u8], times: u32) -> Result<bool, Memory> {
+    /// Puts the bytes at the end of the last file, so many times.
+    ///
+    /// # Errors
+    ///
+    /// `Malformed` where there is no file.
+    pub fn add(&mut self, alloc: Global, bytes: &[u8], times: u32) -> Result<(), Unfollowed> {
         let Some(mut file) = self.files.pop() else {
-            return Ok(false);
+            return Err(Unfollowed::Malformed);
         };
         let mut block = List::new(alloc);
         for _ in 0..times.min(BLOCK) {
@@ -82,7 +87,7 @@ impl Case {
         block.truncate(bytes.len().saturating_mul((times % BLOCK) as usize));
         file.bytes.extend(block.as_slice())?;
         self.files.push(file)?;
-        Ok(true)
+        Ok(())
     }
 
     /// Takes these words in place of those before.
@@ -94,10 +99,4 @@ impl Case {
         self.words = list;
         Ok(())
     }
-}
-
-/// Puts a text at the end.
-pub fn put(said: &mut List<u8>, text: &str) -> Result<(), Memory> {
-    said.extend(text.as_bytes())?;
-    Ok(())
 }
