@@ -12,7 +12,7 @@ use Rattle.grind_normal_forms.specs.Pairs.{IsLeadGcd, lead_coefficient}
 use Rattle.grind_polynomials.specs.Polynomials.{IsPoly}
 use Rattle.grind_normal_forms.specs.Reduction.{reduced_of, IsNormal}
 use Rattle.grind_polynomials.specs.Sums.{and_then, sum_product}
-use Rattle.grind_normal_forms.specs.FinalFactors.{FactorsFit, FactorsOverflow}
+use Rattle.grind_normal_forms.specs.FinalFactors.{FactorNumbersFit, FactorsOverflow}
 use Rattle.grind_polynomials.proofs.Fits.{ok-err, same_Ok}
 use Rattle.grind_normal_forms.proofs.Divisors.{gcd-positive, size-nonzero}
 use Rattle.grind_normal_forms.proofs.PairLemmas.{nonzero-lead}
@@ -39,7 +39,7 @@ no_factors basis poly over factors are = elim over [
       ok-err (Ok are.final.made) are.final.made Overflow refl
       (reduces-one basis.elements (reduced_of (pos 1) poly) (Ok are.final.made) (Err Overflow) are.final.made_is breaks)
   | inr exceeds ↦
-      exceeds.over (subst FactorsFit (final-one basis.elements poly factors exceeds.factors are.final exceeds.final_is) are.fits)
+      exceeds.over (subst FactorNumbersFit (final-one basis.elements poly factors exceeds.factors are.final exceeds.final_is) are.fits)
 ]
 
 -- a normal form without a rest has the factor 1

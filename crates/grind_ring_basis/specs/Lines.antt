@@ -8,7 +8,7 @@ use Rattle.grind_polynomials.specs.Polynomials.{term_of, fit_or_refuse}
 use Rattle.grind_polynomials.specs.Readings.{number_poly}
 use Rattle.grind_polynomials.specs.Sums.{and_then, sum_product}
 use Rattle.grind_normal_forms.specs.Pairs.{divided_by, lead_coefficient, lead_monomial, lead_multiple}
-use Rattle.grind_normal_forms.specs.FinalFactors.{IsFinal, FactorsFit}
+use Rattle.grind_normal_forms.specs.FinalFactors.{IsFinal, FactorNumbersFit}
 use Rattle.grind_ring_basis.specs.declared.types.Fact.{Fact}
 use Rattle.grind_ring_basis.specs.declared.types.Basis.{Basis}
 use Rattle.grind_ring_basis.specs.declared.types.Share.{Share}
@@ -22,7 +22,7 @@ use Rattle.grind_ring_basis.specs.Shares.{share, shares_of, in_order, IsLineOver
 -- the factors of the reduction of the polynomial; each number in them fits in 128 bits
 pub record AreFactors (basis : Basis) (poly : List Term) (factors : Factors) : Type 0 where
   pub final : IsFinal basis.elements poly factors
-  pub fits : FactorsFit factors
+  pub fits : FactorNumbersFit factors
 
 -- the premises of the line for the normal form of a fact: the fact as often as its reduction took it, and the elements
 abbrev pub fact_shares : Basis → Fact → Factors → List (ℕ × Share)
