@@ -35,10 +35,11 @@ pub record Pair : Type 0 where
   pub first : Term
   pub second : Term
 
--- the terms of their product
+-- the coefficient of their product
 abbrev pub pair_number : Pair → ℤ
 pair_number pair = pair.first.coefficient *ℤ pair.second.coefficient
 
+-- the monomial of their product
 abbrev pub pair_monomial : Pair → List ℕ
 pair_monomial pair = product pair.first.monomial pair.second.monomial
 
@@ -108,6 +109,7 @@ IdealFits factors it = ProductsFit nothing (all_pairs factors it.polys) × Coeff
 abbrev pub SaysZero : Divided → Claim → Type 0
 SaysZero it claim = claim ≡ claims.Zero it.rest
 
+-- `ideal` allows exactly its result, where each number on the way fits and each quotient does
 abbrev pub IdealAllowsItsResult : Type 0
 IdealAllowsItsResult =
     (lemmas : Lemmas) (goal : GoalData) (nodes : List Node) (literal : Option Claim) (divisor : ℤ) (factors : List (List Term))
@@ -154,6 +156,7 @@ PolyDifferencesAreExact =
     (poly_difference nodes a b ≡ Some poly)
     ↔ ((it : PolyDifference) × IsPolyDifferenceOf nodes a b it × PolyDifferenceFits it × (poly ≡ it.poly))
 
+-- `poly` allows exactly its result, where each number on the way fits
 abbrev pub PolyAllowsItsResult : Type 0
 PolyAllowsItsResult =
     (lemmas : Lemmas) (goal : GoalData) (nodes : List Node) (literal : Option Claim) (premises : List Claim) →
