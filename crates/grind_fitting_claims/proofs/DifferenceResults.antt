@@ -18,7 +18,7 @@ use Rattle.grind_fitting_claims.proofs.SumsExactly.{sum_is, sum_fits, sum_there,
 use Rattle.grind_fitting_claims.proofs.ReadingsAreForms.{reading_is_form}
 
 -- ---- differences
-and_then_some : {A B : Type 0} (f : A → Option B) (o : Option A) (b : B) → option_and_then f o ≡ Some b → (a : A) × (o ≡ Some a) × (f a ≡ Some b)
+pub and_then_some : {A B : Type 0} (f : A → Option B) (o : Option A) (b : B) → option_and_then f o ≡ Some b → (a : A) × (o ≡ Some a) × (f a ≡ Some b)
 and_then_some f None b e = absurd (none-some b e)
 and_then_some f (Some a) b e = (a, refl, e)
 
@@ -112,13 +112,13 @@ says_zero it form claim e is none =
     e ∙ ap (λ (f : FormData). AtMost f) (is ∙ sym (plus_zero it.form it.number none))
 
 -- what the first premise names, and what the second bounds
-abbrev first_of : List Claim → ℕ
+abbrev pub first_of : List Claim → ℕ
 first_of (Same a b ∷ rest) = a
 first_of (Holds n ∷ rest) = n
 first_of (Fails n ∷ rest) = n
 first_of _ = 0
 
-abbrev second_of : List Claim → ℕ
+abbrev pub second_of : List Claim → ℕ
 second_of (Same a b ∷ rest) = b
 second_of _ = 0
 

@@ -28,7 +28,7 @@ use Rattle.grind_fitting_claims.proofs.PolysFit.{is_fitting}
 use Rattle.grind_fitting_claims.proofs.MoreExactly.{same_at, more_is, more_there, one_poly}
 
 -- ---- one product
-within : (q b : Term) (terms all : List Term) → with_product q b terms ≡ Ok all
+pub within : (q b : Term) (terms all : List Term) → with_product q b terms ≡ Ok all
     → is_over (length q.monomial + length b.monomial) ≡ false
 within q b terms all e = at_test (is_over (length q.monomial + length b.monomial)) refl
   where
@@ -37,7 +37,7 @@ within q b terms all e = at_test (is_over (length q.monomial + length b.monomial
     at_test false judged = judged
 
 -- the monomials of a pair are some
-abbrev ArePlain : Pair → Type 0
+abbrev pub ArePlain : Pair → Type 0
 ArePlain pair = IsMonomial pair.first.monomial × IsMonomial pair.second.monomial
 
 -- what one pair adds
@@ -76,7 +76,7 @@ one_there pair terms poly degree fits sum_fits =
     )
 
 -- ---- all pairs in turn
-abbrev all_added : List Pair → List Term → Result (List Term) PolyRefusal
+abbrev pub all_added : List Pair → List Term → Result (List Term) PolyRefusal
 all_added [] terms = Ok terms
 all_added (pair ∷ rest) terms = and_then (all_added rest) (with_product pair.first pair.second terms)
 
@@ -102,7 +102,7 @@ added-with q (b ∷ bs) terms =
     products-cons q b bs terms
     ∙ then_same (with_products q bs) (all_added (pairs_with q bs)) (with_product q b terms) (λ all. added-with q bs all)
 
-added-of : (qs bs terms : List Term) → with_all_products qs bs terms ≡ all_added (pairs_of qs bs) terms
+pub added-of : (qs bs terms : List Term) → with_all_products qs bs terms ≡ all_added (pairs_of qs bs) terms
 added-of [] bs terms = all-nil bs terms
 added-of (q ∷ qs) bs terms =
     all-cons q qs bs terms
@@ -110,10 +110,10 @@ added-of (q ∷ qs) bs terms =
     ∙ ap (and_then (all_added (pairs_of qs bs))) (added-with q bs terms) ∙ sym (added-append (pairs_with q bs) (pairs_of qs bs) terms)
 
 -- what all of them add to a polynomial of these coefficients
-record AddsAll (at : List ℕ → ℤ) (pairs : List Pair) (all : List Term) : Type 0 where
-  poly : IsPoly all
-  numbers : (n : List ℕ) → number_at n all ≡ with_pairs_added at pairs n
-  fit : ProductsFit at pairs
+pub record AddsAll (at : List ℕ → ℤ) (pairs : List Pair) (all : List Term) : Type 0 where
+  pub poly : IsPoly all
+  pub numbers : (n : List ℕ) → number_at n all ≡ with_pairs_added at pairs n
+  pub fit : ProductsFit at pairs
 
 -- the coefficients after one pair
 next_numbers : (at : List ℕ → ℤ) (pair : Pair) (terms all : List Term) → ((n : List ℕ) → number_at n terms ≡ at n) → Adds pair terms all
@@ -127,7 +127,7 @@ at_pair : (at : List ℕ → ℤ) (pair : Pair) (terms : List Term) → ((n : Li
 at_pair at pair terms same =
     (λ i. same (pair_monomial pair) i +ℤ sym (same_at (pair_monomial pair) (pair_monomial pair) (pair_number pair) (pos 0) refl) i)
 
-from_added : (at : List ℕ → ℤ) (pairs : List Pair) (terms all : List Term) → All ArePlain pairs → IsPoly terms
+pub from_added : (at : List ℕ → ℤ) (pairs : List Pair) (terms all : List Term) → All ArePlain pairs → IsPoly terms
     → ((n : List ℕ) → number_at n terms ≡ at n) → all_added pairs terms ≡ Ok all → AddsAll at pairs all
 from_added at [] terms all plain poly same e =
     let is : terms ≡ all = same_Ok (all_added [] terms) terms all refl e in record {
@@ -145,7 +145,7 @@ from_added at (pair ∷ rest) terms all plain poly same e =
       fit = (adds.degree, adds.product_fits, subst (FitsSigned w128) (at_pair at pair terms same) adds.sum_fits, later.fit);
     }
 
-to_added : (at : List ℕ → ℤ) (pairs : List Pair) (terms : List Term) → All ArePlain pairs → IsPoly terms
+pub to_added : (at : List ℕ → ℤ) (pairs : List Pair) (terms : List Term) → All ArePlain pairs → IsPoly terms
     → ((n : List ℕ) → number_at n terms ≡ at n) → ProductsFit at pairs → (all : List Term) × (all_added pairs terms ≡ Ok all)
 to_added at [] terms plain poly same fits = (terms, refl)
 to_added at (pair ∷ rest) terms plain poly same fits =
@@ -156,7 +156,7 @@ to_added at (pair ∷ rest) terms plain poly same fits =
     (later.0, ap (and_then (all_added rest)) w.1 ∙ later.1)
 
 -- ---- pairs of polynomials have monomials
-plain_with : (q : Term) (bs : List Term) → IsMonomial q.monomial → IsPoly bs → All ArePlain (pairs_with q bs)
+pub plain_with : (q : Term) (bs : List Term) → IsMonomial q.monomial → IsPoly bs → All ArePlain (pairs_with q bs)
 plain_with q [] one poly = All-nil ArePlain
 plain_with q (b ∷ bs) one poly =
     All-cons ArePlain (record { first = q; second = b }) (pairs_with q bs) (one, poly.0) (plain_with q bs one poly.3)

@@ -8,3 +8,6 @@ pub mod DifferenceResults
 pub mod CombineResults
 pub mod MoreExactly
 pub mod IdealResults
+pub mod ReadingsKeep
+pub mod ReadingsArePolys
+pub mod PolyDifferenceResults

@@ -42,7 +42,7 @@ other_at x m a b other = at_place (place x m) refl
     at_place Above e = ap (λ (p : Place). chosen p a b) e
     at_place Below e = ap (λ (p : Place). chosen p a b) e
 
-above_other : (a b : List ℕ) → place a b ≡ Above → a ≡ b → ⊥
+pub above_other : (a b : List ℕ) → place a b ≡ Above → a ≡ b → ⊥
 above_other a b e same = above-not_same (sym e ∙ place_is a b same)
 
 -- above all terms there is no coefficient

@@ -1,5 +1,5 @@
 -- The results of the rules over polynomials, over whole numbers without bounds, and where they fit in 128 bits.
-use Rattle.std.specs.Prelude.{◌≡◌, ◌≢◌, ℕ, ◌+◌, List, [], ◌∷◌, ◌++◌, length, Option, All, ⊤, false, ℤ, pos, ◌+ℤ◌, ◌*ℤ◌, FitsSigned}
+use Rattle.std.specs.Prelude.{◌≡◌, ◌≢◌, ◌↔◌, ℕ, ◌+◌, List, [], ◌∷◌, ◌++◌, length, Option, Some, All, ⊤, false, ℤ, pos, negsuc, ◌+ℤ◌, ◌*ℤ◌, FitsSigned}
 use Rattle.std.specs.Int.{w128}
 use Rattle.grind_term_graph.specs.declared.node.Node.{Node}
 use Rattle.grind_schemes.specs.Goals.{GoalData}
@@ -10,6 +10,7 @@ use Rattle.grind_monomials.specs.Order.{place}
 use Rattle.grind_monomials.specs.Monomials.{product}
 use Rattle.grind_polynomials.specs.declared.poly.Term.{Term}
 use Rattle.grind_polynomials.specs.Polynomials.{IsPoly, is_over}
+use Rattle.grind_differences.specs.Differences.{poly_reading, poly_difference}
 use Rattle.grind_differences.specs.Equations.{multiple_poly}
 use Rattle.grind_claims.specs.declared.claim.Claim.{Claim}
 use Rattle.grind_claims.specs.declared.claim.Claim.TheVariants as claims
@@ -34,10 +35,11 @@ pub record Pair : Type 0 where
   pub first : Term
   pub second : Term
 
--- the terms of their product
+-- the coefficient of their product
 abbrev pub pair_number : Pair → ℤ
 pair_number pair = pair.first.coefficient *ℤ pair.second.coefficient
 
+-- the monomial of their product
 abbrev pub pair_monomial : Pair → List ℕ
 pair_monomial pair = product pair.first.monomial pair.second.monomial
 
@@ -107,9 +109,55 @@ IdealFits factors it = ProductsFit nothing (all_pairs factors it.polys) × Coeff
 abbrev pub SaysZero : Divided → Claim → Type 0
 SaysZero it claim = claim ≡ claims.Zero it.rest
 
+-- `ideal` allows exactly its result, where each number on the way fits and each quotient does
 abbrev pub IdealAllowsItsResult : Type 0
 IdealAllowsItsResult =
     (lemmas : Lemmas) (goal : GoalData) (nodes : List Node) (literal : Option Claim) (divisor : ℤ) (factors : List (List Term))
     (premises : List Claim) → All IsWellMade premises → All IsPoly factors →
     AllowsResult (IsIdealResult divisor factors premises) (IdealFits factors) SaysZero
     (RuleAllows lemmas goal nodes literal (rules.Ideal divisor factors) premises)
+
+-- ---- differences: `poly`
+
+-- two readings, and the first less the second
+pub record PolyDifference : Type 0 where
+  pub left : List Term
+  pub right : List Term
+  pub poly : List Term
+
+-- those of two whole numbers of the table
+pub record IsPolyDifferenceOf (table : List Node) (a b : ℕ) (it : PolyDifference) : Type 0 where
+  pub left_is : poly_reading table a ≡ Some it.left
+  pub right_is : poly_reading table b ≡ Some it.right
+  pub is_poly : IsPoly it.poly
+  pub numbers : (m : List ℕ) → number_at m it.poly ≡ number_at m it.left +ℤ negsuc 0 *ℤ number_at m it.right
+
+-- -1 times the term fits, and so does the coefficient of its monomial to which that is added
+abbrev pub TermIsTakenOff : List Term → Term → Type 0
+TermIsTakenOff terms term =
+    FitsSigned w128 (negsuc 0 *ℤ term.coefficient) × FitsSigned w128 (number_at term.monomial terms +ℤ negsuc 0 *ℤ term.coefficient)
+
+-- so it is with each term of the second
+abbrev pub PolyDifferenceFits : PolyDifference → Type 0
+PolyDifferenceFits it = All (TermIsTakenOff it.left) it.right
+
+-- the difference is 0
+abbrev pub SaysNoDifference : PolyDifference → Claim → Type 0
+SaysNoDifference it claim = claim ≡ claims.Zero it.poly
+
+-- poly: the difference of two whole numbers that are equal
+abbrev pub IsPolyResult : List Node → List Claim → PolyDifference → Type 0
+IsPolyResult nodes premises it = (a : ℕ) × (b : ℕ) × (premises ≡ claims.Same a b ∷ []) × IsPolyDifferenceOf nodes a b it
+
+-- the polynomial difference of two terms is defined exactly where their readings are and each number on the way fits, and it is that difference
+abbrev pub PolyDifferencesAreExact : Type 0
+PolyDifferencesAreExact =
+    (nodes : List Node) (a b : ℕ) (poly : List Term) →
+    (poly_difference nodes a b ≡ Some poly)
+    ↔ ((it : PolyDifference) × IsPolyDifferenceOf nodes a b it × PolyDifferenceFits it × (poly ≡ it.poly))
+
+-- `poly` allows exactly its result, where each number on the way fits
+abbrev pub PolyAllowsItsResult : Type 0
+PolyAllowsItsResult =
+    (lemmas : Lemmas) (goal : GoalData) (nodes : List Node) (literal : Option Claim) (premises : List Claim) →
+    AllowsResult (IsPolyResult nodes premises) PolyDifferenceFits SaysNoDifference (RuleAllows lemmas goal nodes literal rules.Poly premises)

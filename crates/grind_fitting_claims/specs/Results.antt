@@ -114,10 +114,11 @@ SumsFit number sum (factor ∷ factors) (form ∷ forms) =
     FitsSigned w128 (factor *ℤ number form) × FitsSigned w128 (sum +ℤ factor *ℤ number form)
     × SumsFit number (sum +ℤ factor *ℤ number form) factors forms
 
--- the coefficient of a node in a form, and the constant of a form
+-- the coefficient of a node in a form
 abbrev pub at_node : ℕ → FormData → ℤ
 at_node n form = coefficient_at n form.parts
 
+-- the constant of a form
 abbrev pub constant_in : FormData → ℤ
 constant_in form = form.constant
 
@@ -165,22 +166,25 @@ DifferencesAreExact =
     (difference nodes a b ≡ Some form)
     ↔ ((it : Difference) × IsDifferenceOf nodes a b it × SumFits (pos 1) it.left (negsuc 0) it.right × (form ≡ it.form))
 
+-- `line` allows exactly its result, where each number on the way fits
 abbrev pub LineAllowsItsResult : Type 0
 LineAllowsItsResult =
     (lemmas : Lemmas) (goal : GoalData) (nodes : List Node) (literal : Option Claim) (premises : List Claim) →
     AllowsResult (IsLineResult nodes premises) DifferenceFits SaysBound (RuleAllows lemmas goal nodes literal rules.Line premises)
 
+-- `read` allows exactly its result, where each number on the way fits
 abbrev pub ReadAllowsItsResult : Type 0
 ReadAllowsItsResult =
     (lemmas : Lemmas) (goal : GoalData) (nodes : List Node) (literal : Option Claim) (premises : List Claim) →
     AllowsResult (IsReadResult nodes premises) DifferenceFits SaysBound (RuleAllows lemmas goal nodes literal rules.Read premises)
 
+-- `strict` allows exactly its result, where the bound and 1 fits
 abbrev pub StrictAllowsItsResult : Type 0
 StrictAllowsItsResult =
     (lemmas : Lemmas) (goal : GoalData) (nodes : List Node) (literal : Option Claim) (premises : List Claim) →
     AllowsResult (IsStrictResult nodes premises) StrictFits SaysStrict (RuleAllows lemmas goal nodes literal rules.Strict premises)
 
--- `combine` also allows each lower constant
+-- `combine` allows exactly its result and each bound with a lower constant, where each number on the way fits
 abbrev pub CombineAllowsItsResult : Type 0
 CombineAllowsItsResult =
     (lemmas : Lemmas) (goal : GoalData) (nodes : List Node) (literal : Option Claim) (divisor : ℤ) (factors : List ℤ) (premises : List Claim) →

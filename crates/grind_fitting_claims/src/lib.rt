@@ -5,7 +5,7 @@
 #![tactic(auto)]
 
 ghost use Rattle.grind_fitting_claims.specs.Fitting.{AllowedFits};
-ghost use Rattle.grind_fitting_claims.specs.PolyResults.{IdealAllowsItsResult};
+ghost use Rattle.grind_fitting_claims.specs.PolyResults.{IdealAllowsItsResult, PolyDifferencesAreExact, PolyAllowsItsResult};
 ghost use Rattle.grind_fitting_claims.specs.Results.{DifferencesAreExact, LineAllowsItsResult, ReadAllowsItsResult, StrictAllowsItsResult, CombineAllowsItsResult};
 
 use grind_lemmas::products_cancel;
@@ -50,3 +50,13 @@ pub fn ideal_allows_its_result()
 {
     products_cancel();
 }
+
+/// The difference of the polynomials that two terms are read as is defined exactly where both are and each number on the way to it fits.
+pub fn poly_differences_are_exact()
+    ensures { PolyDifferencesAreExact }
+{}
+
+/// `poly` allows exactly its result, where each number on the way fits: the difference of two equal whole numbers is 0.
+pub fn poly_allows_its_result()
+    ensures { PolyAllowsItsResult }
+{}
