@@ -6,8 +6,8 @@ ghost use Rattle.grind_congruence.specs.Congruence.{Fits};
 
 use grind_classes::Classes;
 use grind_congruence::{Closure, Edge};
-use grind_outside::{List, Memory};
-use grind_term_graph::{Args, FunId, Head, Node, NodeId, SortId, TermTable};
+use grind_outside::Memory;
+use grind_term_graph::{Args, FunId, Head, Node, NodeId, SortId, TermRefusal, TermTable};
 use std::alloc::Global;
 use std::test::Fail;
 
@@ -35,23 +35,24 @@ fn applied(alloc: Global, arg: NodeId) -> Result<Node, Memory>
     })
 }
 
-// The table of a, f(a) and so on, up to five times f: the nodes 2 to 7.
-fn powers(alloc: Global) -> Result<TermTable, Memory> {
-    let mut terms = TermTable::new(alloc, 8)?;
+// Puts f of the last node into a table.
+fn put_next(alloc: Global, terms: &mut TermTable) -> Result<(), TermRefusal> {
+    let last = NodeId::new(terms.len().saturating_sub(1));
+    if last.number() < terms.len() {
+        let next = applied(alloc, last)?;
+        terms.intern(alloc, next)?;
+    }
+    Ok(())
+}
+
+// Puts a, f(a) and so on, up to five times f, into an empty table: the nodes 2 to 7.
+fn put_powers(alloc: Global, terms: &mut TermTable) -> Result<(), TermRefusal> {
     let first = constant(alloc)?;
-    if terms.intern(alloc, first).is_err() {
-        return Err(Memory);
-    }
+    terms.intern(alloc, first)?;
     for _ in 0..5 {
-        let last = NodeId::new(terms.len().saturating_sub(1));
-        if last.number() < terms.len() {
-            let next = applied(alloc, last)?;
-            if terms.intern(alloc, next).is_err() {
-                return Err(Memory);
-            }
-        }
+        put_next(alloc, terms)?;
     }
-    Ok(terms)
+    Ok(())
 }
 
 // Whether all nodes are active.
@@ -87,15 +88,15 @@ fn activated(
     closure.activate(alloc, terms, n)
 }
 
-// A closure in which all nodes of a table are active.
-fn all_active(alloc: Global, terms: &TermTable) -> Result<Closure, Memory>
-    ensures { IfOk result (λ closure. Fits closure terms.now.nodes) }
+// Makes all nodes of a table active.
+fn activate_all(alloc: Global, closure: &mut Closure, terms: &TermTable) -> Result<(), Memory>
+    requires { Fits closure.old terms.now.nodes }
+    ensures { Fits closure.new terms.now.nodes }
 {
-    let mut closure = Closure::new(alloc);
     for number in 0..terms.len() {
-        activated(alloc, &mut closure, terms, NodeId::new(number))?;
+        activated(alloc, closure, terms, NodeId::new(number))?;
     }
-    Ok(closure)
+    Ok(())
 }
 
 // Says that two nodes are equal, where they are active.
@@ -131,19 +132,10 @@ fn settled(alloc: Global, closure: &mut Closure, terms: &TermTable) -> Result<()
     Ok(())
 }
 
-// The way from a node to another, if they are together.
-fn way(
-    alloc: Global,
-    closure: &Closure,
-    a: NodeId,
-    b: NodeId,
-) -> Result<Option<List<u32>>, Memory> {
+// Whether two active nodes are in different classes.
+fn are_apart(closure: &Closure, a: NodeId, b: NodeId) -> bool {
     let classes = closure.classes();
-    if !classes.is_active(a) || !classes.is_active(b) || !classes.same(a, b) {
-        return Ok(None);
-    }
-    let places = closure.path(alloc, a, b)?;
-    Ok(Some(places))
+    classes.is_active(a) && classes.is_active(b) && !classes.same(a, b)
 }
 
 // Where the edges at these places lead from a node.
@@ -164,26 +156,64 @@ fn end_of(edges: &[Edge], places: &[u32], a: NodeId) -> Option<NodeId> {
 
 // Whether the way from a node to another is there and leads to it.
 fn is_led(alloc: Global, closure: &Closure, a: NodeId, b: NodeId) -> Result<bool, Memory> {
-    match way(alloc, closure, a, b)? {
-        Some(places) => Ok(end_of(closure.edges(), places.as_slice(), a) == Some(b)),
-        None => Ok(false),
+    let classes = closure.classes();
+    if !classes.is_active(a) || !classes.is_active(b) || !classes.same(a, b) {
+        return Ok(false);
     }
+    let places = closure.path(alloc, a, b)?;
+    Ok(end_of(closure.edges(), places.as_slice(), a) == Some(b))
+}
+
+// Whether a copy has the same equations.
+fn is_copied(alloc: Global, closure: &Closure) -> Result<bool, Memory> {
+    let copy = closure.copy(alloc)?;
+    Ok(copy.edges() == closure.edges())
+}
+
+// Whether the equations of f(f(f(a))) and f(f(f(f(f(a))))) with a leave f(a) apart from a and the closure not at rest.
+fn are_kept(alloc: Global, closure: &mut Closure, terms: &TermTable) -> Result<bool, Memory>
+    requires { Fits closure.old terms.now.nodes }
+    ensures { Fits closure.new terms.now.nodes }
+{
+    let a = NodeId::new(2);
+    asserted(alloc, closure, terms, NodeId::new(5), a, 7)?;
+    asserted(alloc, closure, terms, NodeId::new(7), a, 8)?;
+    Ok(!closure.at_rest(terms) && are_apart(closure, NodeId::new(3), a))
+}
+
+// Whether the steps end at rest, with a way from f(a) to a.
+fn are_joined(alloc: Global, closure: &mut Closure, terms: &TermTable) -> Result<bool, Memory>
+    requires { Fits closure.old terms.now.nodes }
+{
+    settled(alloc, closure, terms)?;
+    if !closure.at_rest(terms) {
+        return Ok(false);
+    }
+    is_led(alloc, closure, NodeId::new(3), NodeId::new(2))
+}
+
+// What came of the equations, of the steps and of a copy.
+fn seen(
+    alloc: Global,
+    closure: &mut Closure,
+    terms: &TermTable,
+) -> Result<(bool, bool, bool), Memory>
+    requires { Fits closure.old terms.now.nodes }
+{
+    activate_all(alloc, closure, terms)?;
+    let kept = are_kept(alloc, closure, terms)?;
+    let joined = are_joined(alloc, closure, terms)?;
+    let copied = is_copied(alloc, closure)?;
+    Ok((kept, joined, copied))
 }
 
 #[test]
 fn joins_the_powers(rt: HostRuntime) -> Result<(), Fail> {
     let alloc = rt.alloc();
-    let terms = powers(alloc)?;
-    let mut closure = all_active(alloc, &terms)?;
-    let (a, fa) = (NodeId::new(2), NodeId::new(3));
-    asserted(alloc, &mut closure, &terms, NodeId::new(5), a, 7)?;
-    asserted(alloc, &mut closure, &terms, NodeId::new(7), a, 8)?;
-    assert!(rt; !closure.at_rest(&terms));
-    assert!(rt; way(alloc, &closure, fa, a)?.is_none());
-    settled(alloc, &mut closure, &terms)?;
-    assert!(rt; closure.at_rest(&terms));
-    assert!(rt; is_led(alloc, &closure, fa, a)?);
-    let copy = closure.copy(alloc)?;
-    assert_eq!(rt; copy.edges(), closure.edges());
+    let mut terms = TermTable::new(alloc, 8)?;
+    put_powers(alloc, &mut terms)?;
+    let mut closure = Closure::new(alloc);
+    let answers = seen(alloc, &mut closure, &terms);
+    assert_eq!(rt; answers, Ok((true, true, true)));
     Ok(())
 }

@@ -1,7 +1,5 @@
-//! Single calls on classes and closures, compared with what they must answer: those that no case of `grind_rows` shows.
+//! Single calls on closures, compared with what they must answer: those that no case of `grind_rows` shows.
 #![tactic(auto)]
 
-#[cfg(test)]
-mod class_tests;
 #[cfg(test)]
 mod closure_tests;
