@@ -44,6 +44,7 @@ FILES = {
     "grind_cutsat_facts": ["Facts", "Covering"],
     "grind_cutsat_bounds": ["Evaluations", "Bounds", "Nearest", "Choices"],
     "grind_cutsat_assignment": ["Given", "Assignments", "Laws"],
+    "grind_cutsat_units": ["Posts", "Comparisons", "Equalities", "Equations", "Cuts", "Clashes", "Pinches", "Strictness", "Settled", "Laws"],
     "grind_scenes": ["Scenes", "Formulas"],
     "grind_case_split": ["Congruences", "Writing", "Building", "Given", "Laws"],
     "grind_value_tables": ["Respects", "Truths", "Evaluations", "Overflows", "Laws"],

@@ -1,0 +1,13 @@
+pub mod Posts
+pub mod Comparisons
+pub mod Equalities
+pub mod Equations
+pub mod Cuts
+pub mod Clashes
+pub mod Pinches
+pub mod Strictness
+pub mod Settled
+pub mod Laws
+pub mod Drafting
+pub mod Passing
+pub mod Sides

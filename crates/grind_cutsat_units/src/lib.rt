@@ -1,0 +1,13 @@
+//! The units of a solver of linear integer arithmetic: what each of them makes of the facts, and that its posts are typed by
+//! their rules.
+#![tactic(auto)]
+
+pub mod drafting;
+pub mod laws;
+mod posts;
+mod sides;
+pub mod types;
+pub mod units;
+
+pub use drafting::drafted;
+pub use types::{Draft, Planned, View};
