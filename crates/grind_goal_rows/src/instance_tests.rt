@@ -6,8 +6,8 @@ use grind_cli::reader::theory_of;
 use grind_outside::Memory;
 use grind_schemes::{Theorem, instantiate, missing};
 use grind_term_graph::{NodeId, TermRefusal, TermTable};
+use grind_theory::Theory;
 use std::alloc::Global;
-use std::test::Fail;
 
 /// Terms: 2 `a`, 3 `f(a)`, 4 `b`, 5 `f(b)`, 6 their equation, 7 `a = b`.
 const THEORY: &str =
@@ -55,25 +55,62 @@ fn made(
     }
 }
 
-#[test]
-fn an_instance_wants_room(rt: HostRuntime) -> Result<(), Fail> {
-    let alloc = rt.alloc();
-    let text = THEORY.as_bytes();
-    assert!(rt; text.len() <= 4_194_304);
-    let theory = theory_of(alloc, text)?;
-    let theorems = theory.lemmas.theorems.as_slice();
-    let goals = theory.goals.as_slice();
-    assert!(rt; theorems.len() == 1);
-    assert!(rt; goals.len() == 1);
-    let terms = goals[0].terms();
-    let a = NodeId::new(2);
-    assert!(rt; wanted(alloc, &theorems[0], terms, a)? == Some(2));
-    for (limit, node, count) in [(8, None, 8), (9, None, 8), (10, Some(NodeId::new(9)), 10)] {
-        assert!(rt; terms.len() <= limit);
-        let mut table = terms.copy(alloc, limit)?;
-        let instance = made(alloc, &theorems[0], &mut table, a)?;
-        assert!(rt; instance == node);
-        assert!(rt; table.len() == count);
+/// The instance at the node in a copy of the table with room for so many nodes, and how many nodes the copy has then.
+fn made_within(
+    alloc: Global,
+    theorem: &Theorem,
+    terms: &TermTable,
+    limit: u32,
+    node: NodeId,
+) -> Result<(Option<NodeId>, u32), Memory> {
+    if terms.len() > limit {
+        return Ok((None, 0));
     }
-    Ok(())
+    let mut table = terms.copy(alloc, limit)?;
+    let instance = made(alloc, theorem, &mut table, node)?;
+    Ok((instance, table.len()))
+}
+
+/// Whether the instance of the only theorem at `a` wants two nodes, and in a table of this limit is this node, with so many nodes then.
+fn is_made(
+    alloc: Global,
+    theory: &Theory,
+    limit: u32,
+    instance: Option<NodeId>,
+    count: u32,
+) -> Result<bool, Memory> {
+    let [theorem] = theory.lemmas.theorems.as_slice() else {
+        return Ok(false);
+    };
+    let [goal] = theory.goals.as_slice() else {
+        return Ok(false);
+    };
+    let a = NodeId::new(2);
+    let more = wanted(alloc, theorem, goal.terms(), a)?;
+    let made = made_within(alloc, theorem, goal.terms(), limit, a)?;
+    Ok(more == Some(2) && made == (instance, count))
+}
+
+/// The same of the theory above.
+fn is_instance(
+    alloc: Global,
+    limit: u32,
+    instance: Option<NodeId>,
+    count: u32,
+) -> Result<bool, Memory> {
+    let bytes = THEORY.as_bytes();
+    if bytes.len() > 4_194_304 {
+        return Ok(false);
+    }
+    let Ok(theory) = theory_of(alloc, bytes) else {
+        return Ok(false);
+    };
+    is_made(alloc, &theory, limit, instance, count)
+}
+
+#[test]
+fn an_instance_wants_room(rt: HostRuntime) {
+    for (limit, node, count) in [(8, None, 8), (9, None, 8), (10, Some(NodeId::new(9)), 10)] {
+        assert_eq!(rt; is_instance(rt.alloc(), limit, node, count), Ok(true));
+    }
 }
