@@ -14,10 +14,10 @@ use Rattle.grind_linear_forms.specs.Naming.{NamesNumbers}
 use Rattle.grind_linear_forms.proofs.Naming.{cut-names}
 use Rattle.grind_differences.specs.Bounds.{plus, IsWithinCut}
 use Rattle.grind_claims.specs.declared.claim.Claim.{Claim}
-use Rattle.grind_claims.specs.declared.claim.Claim.TheVariants.{Same, Differ, AtMost, Zero}
+use Rattle.grind_claims.specs.declared.claim.Claim.TheVariants.{Same, Differ, AtMost}
 use Rattle.grind_claims.specs.declared.proof.Rule.TheVariants.{Read, Write, Line, Sym, Combine, Strict, Apart}
 use Rattle.grind_claims.specs.Claims.{IsFormed}
-use Rattle.grind_arithmetic_rules.specs.LinearRules.{IsRead, IsWrite, IsCombine}
+use Rattle.grind_arithmetic_rules.specs.LinearRules.{IsRead, IsWrite, combined, IsCombine}
 use Rattle.grind_cutsat_facts.specs.declared.facts.Fact.{Fact}
 use Rattle.grind_cutsat_facts.specs.Facts.{fact_of, IsSaid, Stands}
 use Rattle.grind_cutsat_bounds.specs.Bounds.{bound_form}
@@ -151,16 +151,19 @@ equalities_are_typed it posts fits table case =
 
 pub equations_are_typed : EquationsAreTyped
 equations_are_typed it posts fits table case =
-    let gives = case.1.2 in
-    let said = subst (λ (claim : Claim). IsSaid it.facts case.0 claim) gives.3 case.1.1 in
-    let formed = All-cons (IsFormed it.nodes) (Zero gives.0) [] (fact_formed it case.0 (Zero gives.0) fits said) (All-nil (IsFormed it.nodes)) in
-    subst (AreTyped it.nodes it.facts) (sym gives.6)
-    (one_post it.nodes it.facts (planned (AtMost gives.2) (Combine (pos 1) (gives.1 ∷ [])) (Zero gives.0 ∷ []))
+    let claim = case.1.0 in
+    let factor : ℤ = case.1.2.0 in
+    let gives = case.1.2.2 in
+    let form = gives.1 in
+    let formed = All-cons (IsFormed it.nodes) claim [] (fact_formed it case.0 claim fits case.1.1) (All-nil (IsFormed it.nodes)) in
+    let sums = subst (λ (premise : Claim). combined (number_form (pos 0)) (factor ∷ []) (premise ∷ []) ≡ Some form) (sym gives.2) gives.3 in
+    subst (AreTyped it.nodes it.facts) (sym gives.4)
+    (one_post it.nodes it.facts (planned (AtMost form) (Combine (pos 1) (factor ∷ [])) (claim ∷ []))
     (record {
-      formed = combination-names it.nodes (gives.1 ∷ []) (Zero gives.0 ∷ []) gives.2 formed gives.5;
-      rule = λ lemmas goal branch. (gives.2, gives.2, gives.5, within_cut gives.2 gives.2 (pos 1) one_positive (cut_by_one gives.2), refl);
+      formed = combination-names it.nodes (factor ∷ []) (claim ∷ []) form formed sums;
+      rule = λ lemmas goal branch. (form, form, sums, within_cut form form (pos 1) one_positive (cut_by_one form), refl);
     })
-    (one_premise it.nodes it.facts [] (Zero gives.0) (inl (case.0, said))))
+    (one_premise it.nodes it.facts [] claim (inl (case.0, case.1.1))))
 
 pub cuts_are_typed : CutsAreTyped
 cuts_are_typed it posts fits table case =

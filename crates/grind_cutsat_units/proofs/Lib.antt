@@ -6,3 +6,4 @@ pub mod PassingLemmas
 pub mod ReadingLemmas
 pub mod SideLemmas
 pub mod EqualityLemmas
+pub mod StrictLemmas

@@ -16,11 +16,15 @@ use Rattle.grind_cutsat_units.specs.Posts.{planned, AtFact}
 abbrev pub IsSign : ℤ → Type 0
 IsSign factor = (factor ≡ pos 1) ⊎ (factor ≡ negsuc 0)
 
--- the claim is an equation of degree at most 1, taken with this factor
-abbrev pub EquationGives : Claim → List Planned → Type 0
-EquationGives claim posts = (poly : List Term) × (factor : ℤ) × (form : FormData) × (claim ≡ Zero poly) × IsSign factor
+-- the claim is an equation of degree at most 1, and this is what it gives with this factor
+abbrev pub SignedGives : Claim → ℤ → List Planned → Type 0
+SignedGives claim factor posts = (poly : List Term) × (form : FormData) × (claim ≡ Zero poly)
     × (combined (number_form (pos 0)) (factor ∷ []) (Zero poly ∷ []) ≡ Some form)
-    × (posts ≡ planned (AtMost form) (Combine (pos 1) (factor ∷ [])) (Zero poly ∷ []) ∷ [])
+    × (posts ≡ planned (AtMost form) (Combine (pos 1) (factor ∷ [])) (claim ∷ []) ∷ [])
+
+-- it is taken with one of the two
+abbrev pub EquationGives : Claim → List Planned → Type 0
+EquationGives claim posts = (factor : ℤ) × IsSign factor × SignedGives claim factor posts
 
 -- an equation of degree at most 1 is read
 abbrev pub ReadsEquation : Given → ℕ → List Planned → Type 0

@@ -1,9 +1,13 @@
 //! Posts of a case.
-ghost use Rattle.std.specs.Prelude.{◌≡◌, [], ◌∷◌, ◌++◌, IfOk, OnOk};
+ghost use Rattle.std.specs.Prelude.{◌≡◌, [], ◌∷◌, ◌++◌, pos, IfOk, OnOk};
+ghost use Rattle.grind_claims.specs.declared.claim.Claim.TheVariants.{Differ, AtMost};
+ghost use Rattle.grind_claims.specs.declared.proof.Rule.TheVariants.{Combine, Strict};
 ghost use Rattle.grind_cutsat_units.specs.Posts.{planned};
 
+use crate::sides::Sides;
 use crate::types::Planned;
 use grind_claims::{Claim, Rule};
+use grind_linear_forms::Form;
 use grind_outside::{List, Memory};
 use std::alloc::Global;
 
@@ -18,6 +22,47 @@ pub(crate) fn one_post(
 {
     let mut posts = List::new(alloc);
     put_post(alloc, &mut posts, claim, rule, premise)?;
+    Ok(posts)
+}
+
+/// One post by the rule `combine` with the divisor 1, from one claim taken so often.
+pub(crate) fn combine_post(
+    alloc: Global,
+    form: Form,
+    factor: i128,
+    premise: &Claim,
+) -> Result<List<Planned>, Memory>
+    ensures { IfOk result (λ posts. posts ≡ planned (AtMost form) (Combine (pos 1) (factor ∷ [])) (premise.now ∷ []) ∷ []) }
+{
+    let mut factors = List::new(alloc);
+    factors.push(factor)?;
+    let rule = Rule::Combine {
+        divisor: 1,
+        factors,
+    };
+    let posts = one_post(alloc, Claim::AtMost(form), rule, premise)?;
+    Ok(posts)
+}
+
+/// One post by the rule `strict`, from the difference of the two and a bound.
+pub(crate) fn strict_post(
+    alloc: Global,
+    form: Form,
+    sides: &Sides,
+    bound: &Claim,
+) -> Result<List<Planned>, Memory>
+    ensures { IfOk result (λ posts. posts ≡ planned (AtMost form) Strict (Differ sides.now.left sides.now.right ∷ bound.now ∷ []) ∷ []) }
+{
+    let mut premises = List::new(alloc);
+    premises.push(Claim::Differ(sides.left, sides.right))?;
+    let bound = bound.copy(alloc)?;
+    premises.push(bound)?;
+    let mut posts = List::new(alloc);
+    posts.push(Planned {
+        claim: Claim::AtMost(form),
+        rule: Rule::Strict,
+        premises,
+    })?;
     Ok(posts)
 }
 
