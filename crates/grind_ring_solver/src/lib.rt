@@ -5,9 +5,12 @@
 #![tactic(auto)]
 
 mod changes;
+mod copies;
 mod decision;
+pub mod laws;
 pub mod ring;
 pub mod types;
 
+pub use laws::{equal_lines_are_typed, joining_lines_are_typed};
 pub use ring::Ring;
 pub use types::RingStep;

@@ -4,6 +4,7 @@ ghost use Rattle.grind_ring_solver.specs.Given.{nothing_known, IsTaken};
 ghost use Rattle.grind_ring_solver.specs.Steps.{IsStep};
 
 use crate::changes::{answer, take};
+use crate::copies::state_copied;
 use crate::types::RingStep;
 use grind_claims::Claim;
 use grind_classes::Classes;
@@ -81,6 +82,18 @@ impl Ring {
     {
         let step = answer(alloc, &mut self.state, terms, classes, next)?;
         Ok(step)
+    }
+
+    /// The same solver once more.
+    ///
+    /// # Errors
+    ///
+    /// `Memory` where memory was wanted and there was none.
+    pub fn copy(&self, alloc: Global) -> Result<Ring, Memory>
+        ensures { IfOk result (λ ring. ring ≡ self.now) }
+    {
+        let state = state_copied(alloc, &self.state)?;
+        Ok(Ring { state })
     }
 
     /// The posts of the basis, in the order in which they joined.
