@@ -33,6 +33,7 @@ FILES = {
     "grind_arithmetic_rules": ["LinearRules", "PolyRules"],
     "grind_ring_basis": ["Bases", "Pairs", "Shares", "Lines", "Laws"],
     "grind_ring_units": ["Given", "Zeroed", "PostUnits", "PairUnits", "Conflicts", "EqualTerms", "Scans"],
+    "grind_ring_solver": ["Given", "Steps", "Laws"],
     "grind_rules": ["Rules", "Laws"],
     "grind_fitting_claims": ["Fitting", "Results", "PolyResults"],
     "grind_proof_kernel": ["Literals", "Typing", "Judgement", "Laws"],

@@ -1,0 +1,4 @@
+pub mod BlockLemmas
+pub mod StateLemmas
+pub mod EqualLemmas
+pub mod TypedLemmas
