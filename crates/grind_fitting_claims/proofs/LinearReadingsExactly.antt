@@ -1,19 +1,23 @@
 -- The reading of a term as a linear form is defined exactly where the term is read so and each number on the way fits.
-use Rattle.std.proofs.Common.{◌≡◌, inl, inr, ℕ, suc, ◌+◌, List, [], ◌∷◌, ◌++◌, ℤ, pos, negsuc, FitsSigned, Option, Some, None, length, slice_get, refl, sym, ap, ◌∙◌, subst, arith}
+use Rattle.std.proofs.Common.{◌≡◌, ◌↔◌, Bool, true, false, cond, inl, inr, ℕ, suc, ◌+◌, List, [], ◌∷◌, ◌++◌, ℤ, pos, negsuc, FitsSigned, Option, Some, None, length, slice_get, refl, sym, ap, ◌∙◌, subst, arith}
+use Rattle.std.specs.Prelude.{nat_eq}
 use Rattle.std.specs.Int.{w128}
 use Rattle.std.specs.Option.{option_and_then}
 use Rattle.std.proofs.lemmas.Bool.{cases_order}
+use Rattle.std.proofs.lemmas.Bool.Decides.{Decides-eqb}
 use Rattle.std.proofs.lemmas.Option.{none-some, same_Some, slice_get_past}
 use Rattle.grind_lemmas.proofs.Lists.{get-before, get-at, length-push}
 use Rattle.grind_term_graph.specs.declared.head.Head.{Head}
 use Rattle.grind_term_graph.specs.declared.head.Head.TheVariants as head
 use Rattle.grind_term_graph.specs.declared.node.Node.{Node}
+use Rattle.grind_term_graph.specs.Terms.{int, sort_at}
 use Rattle.grind_reach.specs.Reached.{HaveEarlierArguments}
 use Rattle.grind_reach.specs.Readings.{of_one, of_two, reading_of, found, readings, read_at}
 use Rattle.grind_reach.proofs.ReadingLemmas.{readings-cons, readings-nil, found-by, found-some, reading-at}
 use Rattle.grind_linear_forms.specs.Forms.{FormData, number_form, node_form, IsForm}
 use Rattle.grind_linear_forms.specs.Sums.{scaled_form, scaled_sum}
 use Rattle.grind_linear_forms.specs.Readings.{product_form, form_operations, linear}
+use Rattle.grind_differences.specs.Differences.{is_number_sort, reading}
 use Rattle.grind_fitting_claims.specs.LinearReadings.{IsFittingMultiple, IsProductOf, IsReadAsItself, IsReadAs, of_number, of_itself, of_sum, of_negation, of_product, WithoutBounds, LinearReadingsAreExact, BoundsOnlyRefuse}
 use Rattle.grind_fitting_claims.proofs.ReadingsAreForms.{node_is}
 use Rattle.grind_fitting_claims.proofs.LinearSteps.{from_sum, to_sum, from_multiple, to_multiple, from_product, to_product}
@@ -194,9 +198,29 @@ module _ (nodes : List Node) (earlier : HaveEarlierArguments nodes) where
       ∙ by_two (product_form n) a b left right (so_defined a left first) (so_defined b right second)
       ∙ to_product n left right (read_is_form Fit nodes a left first) (read_is_form Fit nodes b right second) form h
 
-pub readings_are_exact : LinearReadingsAreExact
+linear_exact : (nodes : List Node) → HaveEarlierArguments nodes → (n : ℕ) (form : FormData)
+    → (linear nodes n ≡ Some form) ↔ IsReadAs Fit nodes n form
 unfolding linear
-readings_are_exact nodes earlier n form = (λ e. defined_so nodes n form e, λ h. so_defined nodes earlier n form h)
+linear_exact nodes earlier n form = (λ e. defined_so nodes n form e, λ h. so_defined nodes earlier n form h)
+
+-- ---- whole numbers
+by_test : (sort : ℕ) (b : Bool) (r : Option FormData) (form : FormData) → nat_eq sort int ≡ b → cond b r None ≡ Some form
+    → (Some sort ≡ Some int) × (r ≡ Some form)
+by_test sort true r form is e = (ap Some ((Decides-eqb sort int).0 is), e)
+by_test sort false r form is e = absurd (none-some form e)
+
+by_sort : (o : Option ℕ) (r : Option FormData) (form : FormData) → cond (is_number_sort o) r None ≡ Some form
+    → (o ≡ Some int) × (r ≡ Some form)
+by_sort None r form e = absurd (none-some form e)
+by_sort (Some sort) r form e = by_test sort (nat_eq sort int) r form refl e
+
+pub readings_are_exact : LinearReadingsAreExact
+unfolding reading
+readings_are_exact nodes earlier n form =
+    let exact = linear_exact nodes earlier n form in (
+      λ e. let is = by_sort (sort_at nodes n) (linear nodes n) form e in (is.0, exact.0 is.1),
+      λ h. ap (λ (sort : Option ℕ). cond (is_number_sort sort) (linear nodes n) None) h.0 ∙ exact.1 h.1,
+    )
 
 -- ---- bounds only refuse
 multiple_without : (m : ℤ) (a form : FormData) → IsFittingMultiple Fit m a form → IsFittingMultiple WithoutBounds m a form

@@ -4,10 +4,11 @@ use Rattle.std.specs.Int.{w128}
 use Rattle.grind_term_graph.specs.declared.head.Head.{Head}
 use Rattle.grind_term_graph.specs.declared.head.Head.TheVariants as head
 use Rattle.grind_term_graph.specs.declared.node.Node.{Node}
+use Rattle.grind_term_graph.specs.Terms.{int, sort_at}
 use Rattle.grind_reach.specs.Reached.{HaveEarlierArguments}
 use Rattle.grind_linear_forms.specs.Forms.{FormData, number_form, node_form, IsForm}
 use Rattle.grind_linear_forms.specs.Coefficients.{coefficient_at}
-use Rattle.grind_linear_forms.specs.Readings.{linear}
+use Rattle.grind_differences.specs.Differences.{reading}
 use Rattle.grind_fitting_claims.specs.Results.{IsSumOf}
 
 -- both numbers fit, and so does their sum
@@ -78,11 +79,12 @@ pub data IsReadAs (Fits : ℤ → Type 0) (nodes : List Node) : ℕ → FormData
 abbrev pub WithoutBounds : ℤ → Type 0
 WithoutBounds number = ⊤
 
--- the reading of a term as a linear form is defined exactly where the term is read so and each number on the way fits in 128 bits
+-- the reading of a term as a linear form is defined exactly where it is a whole number, is read so, and each number on the way fits in
+-- 128 bits
 abbrev pub LinearReadingsAreExact : Type 0
 LinearReadingsAreExact =
     (nodes : List Node) → HaveEarlierArguments nodes → (n : ℕ) (form : FormData) →
-    (linear nodes n ≡ Some form) ↔ IsReadAs (FitsSigned w128) nodes n form
+    (reading nodes n ≡ Some form) ↔ ((sort_at nodes n ≡ Some int) × IsReadAs (FitsSigned w128) nodes n form)
 
 -- over whole numbers without bounds a term is read as at most one form
 abbrev pub LinearReadingsAreOne : Type 0

@@ -62,7 +62,7 @@ pub fn poly_allows_its_result()
     ensures { PolyAllowsItsResult }
 {}
 
-/// The reading of a term as a linear form is defined exactly where the term is read so and each number on the way fits.
+/// The reading of a term as a linear form is defined exactly where it is a whole number, is read so, and each number on the way fits.
 pub fn linear_readings_are_exact()
     ensures { LinearReadingsAreExact }
 {}
