@@ -11,3 +11,6 @@ pub mod IdealResults
 pub mod ReadingsKeep
 pub mod ReadingsArePolys
 pub mod PolyDifferenceResults
+pub mod LinearSteps
+pub mod LinearReadingsExactly
+pub mod LinearReadingsOnce

@@ -27,7 +27,7 @@ one_is_not_zero e = (subst (λ (z : ℤ). pos 1 ≤ℤ z) e (record { le = tt })
 number_is : (number : ℤ) → IsForm (number_form number)
 number_is number = tt
 
-node_is : (n : ℕ) → IsForm (node_form n)
+pub node_is : (n : ℕ) → IsForm (node_form n)
 node_is n = (omega arith, one_is_not_zero, tt)
 
 pub by_if : {A : Type 0} (P : A → Type 0) (b : Bool) (one other : A) → P one → P other → P (if b then one else other)

@@ -1,3 +1,4 @@
 pub mod Fitting
 pub mod Results
 pub mod PolyResults
+pub mod LinearReadings

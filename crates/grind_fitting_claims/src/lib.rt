@@ -5,6 +5,7 @@
 #![tactic(auto)]
 
 ghost use Rattle.grind_fitting_claims.specs.Fitting.{AllowedFits};
+ghost use Rattle.grind_fitting_claims.specs.LinearReadings.{LinearReadingsAreExact, LinearReadingsAreOne, BoundsOnlyRefuse};
 ghost use Rattle.grind_fitting_claims.specs.PolyResults.{IdealAllowsItsResult, PolyDifferencesAreExact, PolyAllowsItsResult};
 ghost use Rattle.grind_fitting_claims.specs.Results.{DifferencesAreExact, LineAllowsItsResult, ReadAllowsItsResult, StrictAllowsItsResult, CombineAllowsItsResult};
 
@@ -59,4 +60,19 @@ pub fn poly_differences_are_exact()
 /// `poly` allows exactly its result, where each number on the way fits: the difference of two equal whole numbers is 0.
 pub fn poly_allows_its_result()
     ensures { PolyAllowsItsResult }
+{}
+
+/// The reading of a term as a linear form is defined exactly where it is a whole number, is read so, and each number on the way fits.
+pub fn linear_readings_are_exact()
+    ensures { LinearReadingsAreExact }
+{}
+
+/// Over whole numbers without bounds a term is read as at most one linear form.
+pub fn linear_readings_are_one()
+    ensures { LinearReadingsAreOne }
+{}
+
+/// What a term is read as where each number on the way fits, it is read as over whole numbers without bounds too.
+pub fn bounds_only_refuse()
+    ensures { BoundsOnlyRefuse }
 {}

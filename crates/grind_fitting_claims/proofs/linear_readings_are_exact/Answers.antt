@@ -1,0 +1,5 @@
+use Rattle.grind_fitting_claims.proofs.LinearReadingsExactly.{readings_are_exact}
+use Rattle.grind_fitting_claims.proofs.linear_readings_are_exact.Goals as goal
+
+pub returns : goal.returns
+returns c = readings_are_exact
