@@ -29,7 +29,7 @@ FILES = {
     "grind_truth_tables": ["Tables", "Laws"],
     "grind_arithmetic_rules": ["LinearRules", "PolyRules"],
     "grind_rules": ["Rules", "Laws"],
-    "grind_fitting_claims": ["Fitting", "Results", "LinearReadings", "PolyResults"],
+    "grind_fitting_claims": ["Fitting", "Results", "Derivations", "LinearReadings", "PolyResults", "PolyReadings"],
     "grind_proof_kernel": ["Literals", "Typing", "Judgement", "Laws"],
     "grind_par_check": ["Judges", "Laws"],
     "grind_proof_writer": ["Lines", "Branches", "Writing", "Laws"],
