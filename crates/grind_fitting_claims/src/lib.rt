@@ -1,7 +1,8 @@
 //! Which claims fit in 128 bits: over terms whose numbers fit, what a rule other than `combine` allows fits. So where the result of
 //! such a rule does not fit, the rule allows no claim. And which claim a rule that computes would allow over whole numbers without
 //! bounds, its result: the rule allows a claim exactly where there is a result and each number on the way to it fits, and that claim
-//! is the result, or for `combine` also a weaker one.
+//! is the result, or for `combine` also a weaker one. The readings with which a result begins are told in the same way: each is defined
+//! exactly where the term is read so and each number on the way fits.
 #![tactic(auto)]
 
 ghost use Rattle.grind_fitting_claims.specs.Fitting.{AllowedFits};
