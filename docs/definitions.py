@@ -35,7 +35,7 @@ FILES = {
     "grind_ring_units": ["Given", "Zeroed", "PostUnits", "PairUnits", "Conflicts", "EqualTerms", "Scans"],
     "grind_ring_solver": ["Given", "Steps", "Laws"],
     "grind_rules": ["Rules", "Laws"],
-    "grind_fitting_claims": ["Fitting", "Results", "LinearReadings", "PolyResults"],
+    "grind_fitting_claims": ["Fitting", "Results", "Derivations", "LinearReadings", "PolyResults", "PolyReadings"],
     "grind_proof_kernel": ["Literals", "Typing", "Judgement", "Laws"],
     "grind_par_check": ["Judges", "Laws"],
     "grind_proof_writer": ["Lines", "Branches", "Writing", "Laws"],

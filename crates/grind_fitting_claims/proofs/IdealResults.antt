@@ -161,7 +161,7 @@ plain_with q [] one poly = All-nil ArePlain
 plain_with q (b ∷ bs) one poly =
     All-cons ArePlain (record { first = q; second = b }) (pairs_with q bs) (one, poly.0) (plain_with q bs one poly.3)
 
-plain_of : (qs bs : List Term) → IsPoly qs → IsPoly bs → All ArePlain (pairs_of qs bs)
+pub plain_of : (qs bs : List Term) → IsPoly qs → IsPoly bs → All ArePlain (pairs_of qs bs)
 plain_of [] bs left right = All-nil ArePlain
 plain_of (q ∷ qs) bs left right =
     All-append ArePlain (pairs_with q bs) (pairs_of qs bs) (plain_with q bs left.0 right) (plain_of qs bs left.3 right)

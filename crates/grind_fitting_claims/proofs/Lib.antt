@@ -13,4 +13,7 @@ pub mod ReadingsArePolys
 pub mod PolyDifferenceResults
 pub mod LinearSteps
 pub mod LinearReadingsExactly
-pub mod LinearReadingsOnce
+pub mod ReadingsExactly
+pub mod ReadingsOnce
+pub mod PolyReadingsExactly
+pub mod PolySteps

@@ -46,7 +46,7 @@ sum_goes a b left right form e = sum_is_form a b form (pos 1) (pos 1) left right
 negation_goes : (a : FormData) → IsForm a → AnswersForm (scaled_form (negsuc 0) a)
 negation_goes a is form e = multiple_is_form a form (negsuc 0) is e
 
-keep : Keep form_operations IsForm
+pub keep : Keep form_operations IsForm
 keep = record {
   numbers = λ number. some_is (number_form number) (number_is number);
   atoms = λ n. some_is (node_form n) (node_is n);

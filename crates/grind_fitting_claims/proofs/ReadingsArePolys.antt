@@ -152,7 +152,7 @@ product_goes n a b left right =
     by_if AnswersPoly (is_over (degree a + degree b)) (Some (node_poly n)) (answered (sum_product [] a b)) (some_is (node_poly n) (node_is n))
     (real_product a b left right)
 
-keep : Keep poly_operations IsReading
+pub keep : Keep poly_operations IsReading
 keep = record {
   numbers = λ number. some_is (number_poly number) (number_is number);
   atoms = λ n. some_is (node_poly n) (node_is n);

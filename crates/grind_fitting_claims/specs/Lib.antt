@@ -1,4 +1,6 @@
 pub mod Fitting
 pub mod Results
 pub mod PolyResults
+pub mod Derivations
 pub mod LinearReadings
+pub mod PolyReadings

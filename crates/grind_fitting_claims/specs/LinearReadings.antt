@@ -1,14 +1,13 @@
 -- What a term is read as, as a linear form, where each number on the way keeps to a bound, or over whole numbers without bounds.
-use Rattle.std.specs.Prelude.{◌≡◌, ◌≢◌, ◌⊎◌, ◌↔◌, ℕ, List, [], ◌∷◌, Some, slice_get, ⊤, ℤ, pos, negsuc, ◌+ℤ◌, ◌*ℤ◌, FitsSigned}
+use Rattle.std.specs.Prelude.{◌≡◌, ◌≢◌, ◌⊎◌, ◌↔◌, ℕ, List, [], Some, ⊤, ℤ, pos, negsuc, ◌+ℤ◌, ◌*ℤ◌, FitsSigned}
 use Rattle.std.specs.Int.{w128}
-use Rattle.grind_term_graph.specs.declared.head.Head.{Head}
-use Rattle.grind_term_graph.specs.declared.head.Head.TheVariants as head
 use Rattle.grind_term_graph.specs.declared.node.Node.{Node}
 use Rattle.grind_term_graph.specs.Terms.{int, sort_at}
 use Rattle.grind_reach.specs.Reached.{HaveEarlierArguments}
 use Rattle.grind_linear_forms.specs.Forms.{FormData, number_form, node_form, IsForm}
 use Rattle.grind_linear_forms.specs.Coefficients.{coefficient_at}
 use Rattle.grind_differences.specs.Differences.{reading}
+use Rattle.grind_fitting_claims.specs.Derivations.{IsRead}
 use Rattle.grind_fitting_claims.specs.Results.{IsSumOf}
 
 -- both numbers fit, and so does their sum
@@ -42,38 +41,12 @@ IsProductOf Fits n a b form =
     ⊎ (((a.parts ≢ []) × (b.parts ≡ []) × IsFittingMultiple Fits b.constant a form)
     ⊎ ((a.parts ≢ []) × (b.parts ≢ []) × (form ≡ node_form n)))
 
--- a term of this head is neither a number nor a sum, a negation or a product
-abbrev pub IsReadAsItself : Head → Type 0
-IsReadAsItself head.True = ⊤
-IsReadAsItself head.False = ⊤
-IsReadAsItself head.Not = ⊤
-IsReadAsItself head.And = ⊤
-IsReadAsItself head.Or = ⊤
-IsReadAsItself head.Implies = ⊤
-IsReadAsItself head.Eq = ⊤
-IsReadAsItself head.Le = ⊤
-IsReadAsItself (head.Int number) = ⊥
-IsReadAsItself head.Add = ⊥
-IsReadAsItself head.Neg = ⊥
-IsReadAsItself head.Mul = ⊥
-IsReadAsItself (head.Fun function) = ⊤
-IsReadAsItself (head.Const constant) = ⊤
-
--- the term n is read as the form, and each number that was made on the way fits
-pub data IsReadAs (Fits : ℤ → Type 0) (nodes : List Node) : ℕ → FormData → Type 0 where
-  of_number : {n : ℕ} {form : FormData} (node : Node) (number : ℤ) → slice_get nodes n ≡ Some node → node.head ≡ head.Int number
-      → form ≡ number_form number → IsReadAs Fits nodes n form
-  of_itself : {n : ℕ} {form : FormData} (node : Node) → slice_get nodes n ≡ Some node → IsReadAsItself node.head
-      → form ≡ node_form n → IsReadAs Fits nodes n form
-  of_sum : {n : ℕ} {form : FormData} (node : Node) (a b : ℕ) (left right : FormData) → slice_get nodes n ≡ Some node
-      → node.head ≡ head.Add → node.args ≡ a ∷ b ∷ [] → IsReadAs Fits nodes a left → IsReadAs Fits nodes b right
-      → AdditionsFit Fits left right → IsSumOf (pos 1) left (pos 1) right form → IsReadAs Fits nodes n form
-  of_negation : {n : ℕ} {form : FormData} (node : Node) (a : ℕ) (inner : FormData) → slice_get nodes n ≡ Some node
-      → node.head ≡ head.Neg → node.args ≡ a ∷ [] → IsReadAs Fits nodes a inner
-      → IsFittingMultiple Fits (negsuc 0) inner form → IsReadAs Fits nodes n form
-  of_product : {n : ℕ} {form : FormData} (node : Node) (a b : ℕ) (left right : FormData) → slice_get nodes n ≡ Some node
-      → node.head ≡ head.Mul → node.args ≡ a ∷ b ∷ [] → IsReadAs Fits nodes a left → IsReadAs Fits nodes b right
-      → IsProductOf Fits n left right form → IsReadAs Fits nodes n form
+-- the term n is read as the form, and each number that is made on the way fits
+abbrev pub IsReadAs : (ℤ → Type 0) → List Node → ℕ → FormData → Type 0
+IsReadAs Fits nodes n form =
+    IsRead (λ (number : ℤ) (made : FormData). made ≡ number_form number) (λ (m : ℕ) (made : FormData). made ≡ node_form m)
+    (λ (left right made : FormData). AdditionsFit Fits left right × IsSumOf (pos 1) left (pos 1) right made)
+    (λ (inner made : FormData). IsFittingMultiple Fits (negsuc 0) inner made) (IsProductOf Fits) nodes n form
 
 -- any number fits
 abbrev pub WithoutBounds : ℤ → Type 0

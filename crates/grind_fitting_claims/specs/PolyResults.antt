@@ -69,11 +69,15 @@ with_pairs_added at [] m = at m
 with_pairs_added at (pair ∷ rest) m = with_pairs_added (with_pair_added at pair) rest m
 
 -- in turn, each product is of a degree of at most 16, it fits, and so does the coefficient to which it is added
+abbrev pub EachProductFits : (ℤ → Type 0) → (List ℕ → ℤ) → List Pair → Type 0
+EachProductFits Fits at [] = ⊤
+EachProductFits Fits at (pair ∷ rest) =
+    (is_over (length pair.first.monomial + length pair.second.monomial) ≡ false) × Fits (pair_number pair)
+    × Fits (with_pair_added at pair (pair_monomial pair)) × EachProductFits Fits (with_pair_added at pair) rest
+
+-- so it is in 128 bits
 abbrev pub ProductsFit : (List ℕ → ℤ) → List Pair → Type 0
-ProductsFit at [] = ⊤
-ProductsFit at (pair ∷ rest) =
-    (is_over (length pair.first.monomial + length pair.second.monomial) ≡ false) × FitsSigned w128 (pair_number pair)
-    × FitsSigned w128 (with_pair_added at pair (pair_monomial pair)) × ProductsFit (with_pair_added at pair) rest
+ProductsFit at pairs = EachProductFits (FitsSigned w128) at pairs
 
 -- no coefficient
 abbrev pub nothing : List ℕ → ℤ

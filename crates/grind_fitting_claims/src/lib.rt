@@ -1,11 +1,13 @@
 //! Which claims fit in 128 bits: over terms whose numbers fit, what a rule other than `combine` allows fits. So where the result of
 //! such a rule does not fit, the rule allows no claim. And which claim a rule that computes would allow over whole numbers without
 //! bounds, its result: the rule allows a claim exactly where there is a result and each number on the way to it fits, and that claim
-//! is the result, or for `combine` also a weaker one.
+//! is the result, or for `combine` also a weaker one. The readings with which a result begins are told in the same way: each is defined
+//! exactly where the term is read so and each number on the way fits.
 #![tactic(auto)]
 
 ghost use Rattle.grind_fitting_claims.specs.Fitting.{AllowedFits};
 ghost use Rattle.grind_fitting_claims.specs.LinearReadings.{LinearReadingsAreExact, LinearReadingsAreOne, BoundsOnlyRefuse};
+ghost use Rattle.grind_fitting_claims.specs.PolyReadings.{PolyReadingsAreExact, PolyReadingsAreOne, PolyBoundsOnlyRefuse};
 ghost use Rattle.grind_fitting_claims.specs.PolyResults.{IdealAllowsItsResult, PolyDifferencesAreExact, PolyAllowsItsResult};
 ghost use Rattle.grind_fitting_claims.specs.Results.{DifferencesAreExact, LineAllowsItsResult, ReadAllowsItsResult, StrictAllowsItsResult, CombineAllowsItsResult};
 
@@ -75,4 +77,19 @@ pub fn linear_readings_are_one()
 /// What a term is read as where each number on the way fits, it is read as over whole numbers without bounds too.
 pub fn bounds_only_refuse()
     ensures { BoundsOnlyRefuse }
+{}
+
+/// The reading of a term as a polynomial is defined exactly where it is a whole number, is read so, and each number on the way fits.
+pub fn poly_readings_are_exact()
+    ensures { PolyReadingsAreExact }
+{}
+
+/// Over whole numbers without bounds a term is read as at most one polynomial.
+pub fn poly_readings_are_one()
+    ensures { PolyReadingsAreOne }
+{}
+
+/// What a term is read as, as a polynomial, where each number on the way fits, it is read as over whole numbers without bounds too.
+pub fn poly_bounds_only_refuse()
+    ensures { PolyBoundsOnlyRefuse }
 {}
