@@ -20,7 +20,7 @@ struct Sides {
 ///
 /// # Errors
 ///
-/// `Memory` where memory was wanted and there was none.
+/// `Memory` if out of memory.
 pub fn known_of(alloc: Global, terms: &TermTable) -> Result<Known, Memory> {
     let count = terms.len();
     let fails = [NodeId::FALSE.number()];
@@ -37,7 +37,7 @@ pub fn known_of(alloc: Global, terms: &TermTable) -> Result<Known, Memory> {
 ///
 /// # Errors
 ///
-/// `Memory` where memory was wanted and there was none.
+/// `Memory` if out of memory.
 pub fn classes_of(
     alloc: Global,
     terms: &TermTable,

@@ -79,7 +79,7 @@ module _ (gives : List ℕ → Given → Type 0) (vars : List ℕ) (body : Schem
     pub back : (other : Scheme) (whole : List (List Scheme)) → GivePatterns gives vars other all whole
         → (lists : List (List Scheme)) × GivePatterns gives vars other rest lists
 
-  -- the lists of an annotation and of those behind it
+  -- the lists of an annotation and of those after it
   behind : (other : Scheme) (annotation : Annotation) (tail : List Annotation) (lists : List (List Scheme)) → GivePatterns gives vars other (annotation ∷ tail) lists
       → (later : List (List Scheme)) × GivePatterns gives vars other tail later
   behind other annotation tail [] h = absurd h

@@ -53,7 +53,7 @@ taken times (Same a b) = None
 taken times (Differ a b) = None
 taken times Absurd = None
 
--- a form, and the premises behind it, each so often, added from left to right
+-- a form, and the premises after it, each so often, added from left to right
 abbrev pub combined : FormData → List ℤ → List Claim → Option FormData
 combined sum [] [] = Some sum
 combined sum [] (premise ∷ premises) = None

@@ -31,7 +31,7 @@ zero_of (Differ a b) = None
 zero_of (AtMost form) = None
 zero_of Absurd = None
 
--- a polynomial, and the premises behind it, each times its factor, added from left to right
+-- a polynomial, and the premises after it, each times its factor, added from left to right
 abbrev pub gathered : List Term → List (List Term) → List Claim → Option (List Term)
 gathered sum [] [] = Some sum
 gathered sum [] (premise ∷ premises) = None

@@ -15,7 +15,7 @@ use std::alloc::Global;
 /// apart: two terms that the premises keep apart are different, in either order.
 ///
 /// # Errors
-/// `Memory` where memory was wanted and there was none.
+/// `Memory` if out of memory.
 pub fn is_apart(
     alloc: Global,
     terms: &TermTable,

@@ -19,7 +19,7 @@ use std::alloc::Global;
 /// constant is at most that of the sum divided by the number, rounded up.
 ///
 /// # Errors
-/// `Memory` where memory was wanted and there was none.
+/// `Memory` if out of memory.
 pub fn is_combine(
     alloc: Global,
     divisor: i128,

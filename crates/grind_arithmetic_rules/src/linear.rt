@@ -20,7 +20,7 @@ use std::alloc::Global;
 /// fits.
 ///
 /// # Errors
-/// `Memory` where memory was wanted and there was none.
+/// `Memory` if out of memory.
 pub fn is_read(
     alloc: Global,
     terms: &TermTable,
@@ -49,7 +49,7 @@ pub fn is_read(
 /// opposite difference and 1 or more is.
 ///
 /// # Errors
-/// `Memory` where memory was wanted and there was none.
+/// `Memory` if out of memory.
 pub fn is_write(
     alloc: Global,
     terms: &TermTable,
@@ -164,7 +164,7 @@ fn two_sides(args: &[NodeId]) -> Option<(NodeId, NodeId)>
 /// line: the difference of two whole numbers that are equal is at most 0.
 ///
 /// # Errors
-/// `Memory` where memory was wanted and there was none.
+/// `Memory` if out of memory.
 pub fn is_line(
     alloc: Global,
     terms: &TermTable,
@@ -189,7 +189,7 @@ pub fn is_line(
 /// pinch: two whole numbers are equal where both differences are at most 0.
 ///
 /// # Errors
-/// `Memory` where memory was wanted and there was none.
+/// `Memory` if out of memory.
 pub fn is_pinch(
     alloc: Global,
     terms: &TermTable,
@@ -218,7 +218,7 @@ pub fn is_pinch(
 /// strict: where two whole numbers are different and their difference is at most 0, so is the difference and 1.
 ///
 /// # Errors
-/// `Memory` where memory was wanted and there was none.
+/// `Memory` if out of memory.
 pub fn is_strict(
     alloc: Global,
     terms: &TermTable,

@@ -18,7 +18,7 @@ use std::alloc::Global;
 /// poly: the polynomial of two whole numbers that are equal, of the one less that of the other, is 0.
 ///
 /// # Errors
-/// `Memory` where memory was wanted and there was none.
+/// `Memory` if out of memory.
 pub fn is_poly_rule(
     alloc: Global,
     terms: &TermTable,
@@ -43,7 +43,7 @@ pub fn is_poly_rule(
 /// equal: two whole numbers are equal where the polynomial of the one less that of the other is 0.
 ///
 /// # Errors
-/// `Memory` where memory was wanted and there was none.
+/// `Memory` if out of memory.
 pub fn is_equal(
     alloc: Global,
     terms: &TermTable,
@@ -68,7 +68,7 @@ pub fn is_equal(
 /// ideal: a polynomial is 0 where a number other than 0, times it, is the sum of premises that are 0, each times its factor.
 ///
 /// # Errors
-/// `Memory` where memory was wanted and there was none.
+/// `Memory` if out of memory.
 pub fn is_ideal(
     alloc: Global,
     divisor: i128,

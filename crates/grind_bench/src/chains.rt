@@ -8,7 +8,7 @@ use grind_schemes::Goal;
 use grind_term_graph::NodeId;
 use std::alloc::Global;
 
-/// A proof of the goal with so many lines `trans` one behind the other.
+/// A proof of the goal with so many lines `trans` one after the other.
 pub fn chain(alloc: Global, goal: &Goal, size: u32) -> Result<Proof, Memory>
     requires { size ≤ 4000000 }
     ensures { IfOk result (HasTerms goal.now) }

@@ -13,7 +13,7 @@ use std::alloc::Global;
 /// How many of the hypotheses' pairs of sides differ by a form that is defined. All sides are read in one pass.
 ///
 /// # Errors
-/// `Memory` where memory was wanted and there was none.
+/// `Memory` if out of memory.
 pub fn form_pairs(alloc: Global, goal: &Goal) -> Result<Option<usize>, Memory> {
     let terms = goal.terms();
     let ids = sides_in(alloc, goal)?;
@@ -28,7 +28,7 @@ pub fn form_pairs(alloc: Global, goal: &Goal) -> Result<Option<usize>, Memory> {
 /// The same with polynomials.
 ///
 /// # Errors
-/// `Memory` where memory was wanted and there was none.
+/// `Memory` if out of memory.
 pub fn poly_pairs(alloc: Global, goal: &Goal) -> Result<Option<usize>, Memory> {
     let terms = goal.terms();
     let ids = sides_in(alloc, goal)?;

@@ -22,7 +22,7 @@ pub struct Sides {
 /// How many parts the reading of the conclusion's left side has as a linear form, where it has one.
 ///
 /// # Errors
-/// `Memory` where memory was wanted and there was none.
+/// `Memory` if out of memory.
 pub fn parts_of(alloc: Global, goal: &Goal) -> Result<Option<usize>, Memory> {
     let terms = goal.terms();
     let Some(sides) = sides_of(terms, goal.show()) else {
@@ -41,7 +41,7 @@ pub fn parts_of(alloc: Global, goal: &Goal) -> Result<Option<usize>, Memory> {
 /// How many terms the polynomial of the conclusion's left side has, where there is one.
 ///
 /// # Errors
-/// `Memory` where memory was wanted and there was none.
+/// `Memory` if out of memory.
 pub fn terms_of(alloc: Global, goal: &Goal) -> Result<Option<usize>, Memory> {
     let Some(poly) = left_side(alloc, goal)? else {
         return Ok(None);
@@ -52,7 +52,7 @@ pub fn terms_of(alloc: Global, goal: &Goal) -> Result<Option<usize>, Memory> {
 /// How many terms the normal form of that polynomial has by the basis, where there is one.
 ///
 /// # Errors
-/// `Memory` where memory was wanted and there was none.
+/// `Memory` if out of memory.
 pub fn rest_of(alloc: Global, poly: &Poly, basis: &List<Poly>) -> Result<Option<usize>, Memory>
     requires { All (λ b. b ≢ []) basis.now }
 {
@@ -66,7 +66,7 @@ pub fn rest_of(alloc: Global, poly: &Poly, basis: &List<Poly>) -> Result<Option<
 /// The polynomial of the conclusion's left side.
 ///
 /// # Errors
-/// `Memory` where memory was wanted and there was none.
+/// `Memory` if out of memory.
 pub fn left_side(alloc: Global, goal: &Goal) -> Result<Option<Poly>, Memory> {
     let terms = goal.terms();
     let Some(sides) = sides_of(terms, goal.show()) else {
@@ -79,7 +79,7 @@ pub fn left_side(alloc: Global, goal: &Goal) -> Result<Option<Poly>, Memory> {
 /// The differences of the sides of the hypotheses, as polynomials: those that are defined and not 0.
 ///
 /// # Errors
-/// `Memory` where memory was wanted and there was none.
+/// `Memory` if out of memory.
 pub fn basis_of(alloc: Global, goal: &Goal) -> Result<List<Poly>, Memory> {
     let terms = goal.terms();
     let mut basis = List::new(alloc);

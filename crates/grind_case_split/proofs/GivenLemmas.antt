@@ -103,7 +103,7 @@ facts_alike goal one other first second same =
     let plain : one.reading.plain ≡ other.reading.plain = reading.plain in
     record { equates = cc; left = reading.left; right = reading.right }
 
--- nothing is lost where nothing changes, nor behind what loses nothing
+-- nothing is lost where nothing changes, nor after what loses nothing
 pub KeepsPairs-same : (given : List Edge) → KeepsPairs given given
 KeepsPairs-same given = record { stays = λ a b has. has }
 

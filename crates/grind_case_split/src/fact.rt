@@ -23,7 +23,7 @@ pub(crate) struct Reading {
     pub(crate) right: NodeId,
 }
 
-// What a source says of two terms: a hypothesis, or behind the last of them the conclusion, which is denied.
+// What a source says of two terms: a hypothesis, or after the last of them the conclusion, which is denied.
 #[derive(Clone, Copy)]
 pub(crate) struct Fact {
     // The number of the source, from 0.

@@ -2,7 +2,7 @@
 use grind_outside::{List, Memory};
 use std::alloc::Global;
 
-/// The first word and what stands behind the space after it.
+/// The first word and what stands after the space after it.
 pub fn split(line: &str) -> (&str, &str) {
     match line.split_once(' ') {
         Some((word, rest)) => (word, rest),
@@ -16,7 +16,7 @@ pub fn put(said: &mut List<u8>, text: &str) -> Result<(), Memory> {
     Ok(())
 }
 
-/// Puts bytes at the end, with their name and their number before them, and a line feed behind them where they do not end with one.
+/// Puts bytes at the end, with their name and their number before them, and a line feed after them where they do not end with one.
 pub fn show_part(
     alloc: Global,
     name: &str,

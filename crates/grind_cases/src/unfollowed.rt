@@ -8,7 +8,7 @@ use std::alloc::AllocError;
 pub enum Unfollowed {
     /// It is no directive, or the case may not ask for that.
     Malformed,
-    /// Memory was wanted, and there was none.
+    /// Out of memory.
     Memory,
 }
 

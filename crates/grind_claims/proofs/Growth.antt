@@ -1,4 +1,4 @@
--- What stays where lists grow behind.
+-- What stays where lists grow after.
 use Rattle.std.proofs.Common.{ap, ◌≡◌, ℕ, All, ◌<◌, ◌++◌, List, [], ◌∷◌, Option, Some, None, IsSome, suc, zero, length, refl, sym, ◌∙◌, arith}
 use Rattle.std.specs.Prelude.{slice_get}
 use Rattle.std.specs.Option.{IsSomeAnd, option_map}

@@ -5,11 +5,11 @@ use Rattle.grind_claims.specs.declared.claim.Claim.{Claim}
 use Rattle.grind_claims.specs.declared.proof.Line.{Line}
 use Rattle.grind_claims.specs.Claims.{IsFormed, AreClaimsAt}
 
--- a well-formed claim stays so where terms are put behind the others
+-- a well-formed claim stays so where terms are appended to the others
 abbrev pub FormedStays : Type 0
 FormedStays = (nodes more : List Node) (claim : Claim) → IsFormed nodes claim → IsFormed (nodes ++ more) claim
 
--- what lines claim they still claim where lines are put behind the others
+-- what lines claim they still claim where lines are appended to the others
 abbrev pub ClaimsStay : Type 0
 ClaimsStay = (lines more : List Line) (numbers : List ℕ) (claims : List Claim) →
     AreClaimsAt lines numbers claims → AreClaimsAt (lines ++ more) numbers claims

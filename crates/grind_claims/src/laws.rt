@@ -2,13 +2,13 @@
 ghost use Rattle.grind_claims.specs.Laws.{FormedStays, ClaimsStay, ClaimsCount};
 
 #[tactic(auto, using(crate::proofs::Growth::formed_stays))]
-/// A well-formed claim stays so where terms are put behind the others.
+/// A well-formed claim stays so where terms are appended to the others.
 pub fn formed_stays()
     ensures { FormedStays }
 {}
 
 #[tactic(auto, using(crate::proofs::Growth::claims_stay))]
-/// What lines claim they still claim where lines are put behind the others.
+/// What lines claim they still claim where lines are appended to the others.
 pub fn claims_stay()
     ensures { ClaimsStay }
 {}

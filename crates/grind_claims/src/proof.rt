@@ -22,9 +22,9 @@ pub enum Rule {
     Branch,
     /// A term equals itself.
     Refl,
-    /// An equality is turned round.
+    /// Symmetry: from a = b follows b = a.
     Sym,
-    /// Two equalities, one behind the other, make one.
+    /// Transitivity: from a = b and b = c follows a = c.
     Trans,
     /// Equal arguments of one head give equal terms.
     Cong,

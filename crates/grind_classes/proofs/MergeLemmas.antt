@@ -57,7 +57,7 @@ IsIn-joined lists kept gone r x can = elim (cases_eq r kept) [
   )
 ]
 
--- the first of two lists one behind the other is that of the first list
+-- the first of two lists one after the other is that of the first list
 first_of_append : (xs ys : List ℕ) (kept first : ℕ) (rest : List ℕ) → Contains xs kept
     → ((m : ℕ) (ms : List ℕ) → xs ≡ m ∷ ms → m ≡ kept) → xs ++ ys ≡ first ∷ rest → first ≡ kept
 first_of_append [] ys kept first rest has root e = absurd (Contains-nil kept has)

@@ -45,12 +45,12 @@ long_enough lists n = lists ++ replicate (n + 1 - length lists) []
 abbrev pub with_class : List (List ℕ) → ℕ → List (List ℕ)
 with_class lists n = slice_set (long_enough lists n) n (n ∷ [])
 
--- the lists once the members of the class with root gone stand behind those of the class with root kept
+-- the lists once the members of the class with root gone stand after those of the class with root kept
 abbrev pub joined : List (List ℕ) → ℕ → ℕ → List (List ℕ)
 joined lists kept gone = slice_set (slice_set lists kept (members_of lists kept ++ members_of lists gone)) gone []
 
--- the classes of the roots ra and rb become one, the smaller behind the larger, or that of rb behind that of ra; it has
--- this root, and so many members were put behind others
+-- the classes of the roots ra and rb become one, the smaller after the larger, or that of rb after that of ra; it has
+-- this root, and so many members were appended to others
 abbrev pub IsMerge : List (List ℕ) → ℕ → ℕ → List (List ℕ) → ℕ → ℕ → Type 0
 IsMerge old ra rb new root moved =
     (length (members_of old rb) ≤ length (members_of old ra)

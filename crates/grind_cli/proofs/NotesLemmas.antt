@@ -1,4 +1,4 @@
--- Bytes behind bytes, on a sink.
+-- Bytes after bytes, on a sink.
 use Rattle.std.proofs.Common.{◌≡◌, ℕ, List, [], ◌++◌, Option, Some, None, refl, ap, sym, ◌∙◌, append_assoc, append-nil, inl, inr}
 use Rattle.grind_outside.specs.declared.refusal.SinkRefusal.{SinkRefusal}
 use Rattle.grind_outside.specs.Outside.{appended, IsFront}

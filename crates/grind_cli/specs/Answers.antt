@@ -50,7 +50,7 @@ IsClosedBlock (Unexplored name) = ⊥
 abbrev pub AreClosed : List Block → Type 0
 AreClosed blocks = AllByRecursion IsClosedBlock blocks
 
--- these bytes were written behind what stood there, and they are a report that answers each goal
+-- these bytes were written after what stood there, and they are a report that answers each goal
 pub record WritesReport (signature : SignatureData) (lemmas : Lemmas) (goals : List GoalData) (old new : Option (List ℕ)) (bytes : List ℕ) (report : Report) : Type 0 where
   pub written : new ≡ appended old bytes
   pub spelled : ReportOf bytes report
@@ -92,6 +92,6 @@ IsPartOfReport signature lemmas goals piece =
     IsFront piece header_bytes
     ⊎ ((rest : List ℕ) × (piece ≡ header_bytes ++ rest) × (IsPartOfBlocks signature lemmas goals rest ⊎ IsPartOfEnd signature lemmas goals rest))
 
--- some first bytes of such a report were written behind what stood there
+-- some first bytes of such a report were written after what stood there
 abbrev pub WritesPart : SignatureData → Lemmas → List GoalData → Option (List ℕ) → Option (List ℕ) → Type 0
 WritesPart signature lemmas goals old new = (piece : List ℕ) × (new ≡ appended old piece) × IsPartOfReport signature lemmas goals piece

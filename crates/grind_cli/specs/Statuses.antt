@@ -59,7 +59,7 @@ fault_words faults.Sort = codes ": wrong sort\n"
 fault_words faults.Pattern = codes ": no pattern\n"
 fault_words faults.Size = codes ": too large\n"
 
--- what stands behind the number
+-- what stands after the number
 abbrev pub trail_of : Refusal → List ℕ
 trail_of (refusals.BadByte offset) = codes "\n"
 trail_of (refusals.NumberTooLarge offset) = codes "\n"

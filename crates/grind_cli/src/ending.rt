@@ -20,7 +20,7 @@ pub enum Ending {
     ReadFault,
     /// The output could not be written.
     WriteFault,
-    /// Memory was wanted, and there was none.
+    /// Out of memory.
     Memory,
     /// The file is longer than its limit.
     TooLong,

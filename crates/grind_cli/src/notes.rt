@@ -91,7 +91,7 @@ fn place(refusal: Refusal) -> u32
     }
 }
 
-// What stands behind the number.
+// What stands after the number.
 fn trail(refusal: Refusal) -> &'static [u8]
     ensures { result.now ≡ trail_of refusal }
 {
@@ -119,7 +119,7 @@ fn words_of(fault: Fault) -> &'static [u8]
     }
 }
 
-// Three parts, one behind the other.
+// Three parts, one after the other.
 fn write_around<E: Sink>(
     notes: &mut E,
     before: &[u8],
@@ -134,7 +134,7 @@ fn write_around<E: Sink>(
     write_pair(notes, name, after)
 }
 
-// Two parts, one behind the other.
+// Two parts, one after the other.
 fn write_pair<E: Sink>(notes: &mut E, name: &[u8], after: &[u8]) -> Result<(), SinkRefusal>
     ensures { Notes E.written E.refuses notes.old notes.new (name.now ++ after.now) }
 {

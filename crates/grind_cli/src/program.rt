@@ -65,7 +65,7 @@ pub fn words_of(rt: &(impl Env + AllocGlobal)) -> io::Result<Vec<String>> {
 ///
 /// # Errors
 ///
-/// Want of memory.
+/// Out of memory.
 pub fn after_name(alloc: Global, all: Args) -> io::Result<Vec<String>>
     ensures ok { IfOk result (λ words. words.items ≡ drop 1 (into_iter_items all)) }
     ensures err { IfErr result (λ error. error_kind error ≡ ErrorKind.OutOfMemory) }

@@ -56,7 +56,7 @@ pub enum Refusal {
 pub enum ReaderRefusal {
     /// The bytes are none.
     Refused(Refusal),
-    /// Memory was wanted, and there was none.
+    /// Out of memory.
     Memory,
 }
 

@@ -15,7 +15,7 @@ use std::alloc::Global;
 ///
 /// # Errors
 ///
-/// Want of memory.
+/// Out of memory.
 pub fn solve_goal(alloc: Global, lemmas: &Lemmas, goal: &Goal) -> Result<Outcome, Memory>
     ensures { IfOk result (IsOutcomeOf lemmas.now goal.now) }
 {

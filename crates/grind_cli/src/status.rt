@@ -17,7 +17,7 @@ pub enum Status {
     ReadFault,
     /// The output could not be written.
     WriteFault,
-    /// Memory was wanted, and there was none.
+    /// Out of memory.
     Memory,
     /// The report is malformed.
     ReportMalformed,

@@ -29,7 +29,7 @@ Leads-more edges more [] a b e = e
 Leads-more edges more (place ∷ places) a b (edge, mid, stands, passes, rest) =
     (edge, mid, slice_get-more edges more place edge stands, passes, Leads-more edges more places mid b rest)
 
--- one way behind another
+-- one way after another
 pub Leads-append : (edges : List Edge) (first second : List ℕ) (a b d : ℕ) → Leads edges first a b → Leads edges second b d
     → Leads edges (first ++ second) a d
 Leads-append edges [] second a b d e rest = subst (λ (x : ℕ). Leads edges second x d) (sym e) rest

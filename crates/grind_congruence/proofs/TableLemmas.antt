@@ -134,7 +134,7 @@ entered_last [] key n none = refl
 entered_last (entry ∷ entries) key n none =
     last_in entry entries key n none (entered_last entries key n (λ m has. none m (Contains-more entry entries (key, m) has)))
 
--- a key that stands behind others is not one of these
+-- a key that stands after others is not one of these
 differs : (entries : List (Node × ℕ)) (first key : Node) (n : ℕ) (more : List (Node × ℕ))
     → AllByRecursion (λ other. node_eq first other ≡ false) (keys_of (entries ++ (key, n) ∷ more)) → node_eq first key ≡ false
 differs [] first key n more all = all.0

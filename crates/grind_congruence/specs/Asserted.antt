@@ -4,7 +4,7 @@ use Rattle.grind_term_graph.specs.declared.node.Node.{Node}
 use Rattle.grind_classes.specs.Classes.{IsIn, IsActive, IsMerge, AreMergedAt}
 use Rattle.grind_congruence.specs.Congruence.{Congruence, application_of}
 
--- the classes of a and b are one, and the edge between them is kept behind the others
+-- the classes of a and b are one, and the edge between them is kept after the others
 pub record IsJoined (old new : Congruence) (a b why : ℕ) : Type 0 where
   -- the lists are those of a merge of the two classes
   pub merged : (ra rb : ℕ) → IsIn old.lists ra a → IsIn old.lists rb b

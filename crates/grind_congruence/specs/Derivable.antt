@@ -12,7 +12,7 @@ mutual
     reflexive : {a : ℕ} → Among a → Derivable nodes pairs Among a a
     -- read from the right
     symmetric : {a b : ℕ} → Derivable nodes pairs Among a b → Derivable nodes pairs Among b a
-    -- one behind the other
+    -- one after the other
     transitive : {a b c : ℕ} → Derivable nodes pairs Among a b → Derivable nodes pairs Among b c → Derivable nodes pairs Among a c
     -- two nodes of one head and one sort with arguments, which are equal one by one
     congruent : {a b : ℕ} (left right : Node) → Among a → Among b → slice_get nodes a ≡ Some left → slice_get nodes b ≡ Some right

@@ -145,7 +145,7 @@ IsEntered old key n m new =
 abbrev pub uses_of : List (List ℕ) → ℕ → List ℕ
 uses_of uses n = slice_index_or uses n []
 
--- those of these nodes, one behind the other
+-- those of these nodes, one after the other
 abbrev pub uses_of_all : List (List ℕ) → List ℕ → List ℕ
 uses_of_all uses [] = []
 uses_of_all uses (n ∷ nodes) = uses_of uses n ++ uses_of_all uses nodes

@@ -138,7 +138,7 @@ impl Closure {
     }
 
     /// Two active nodes that are congruent and in different classes. `None` comes exactly where the
-    /// closure is at rest. Keys may have been entered behind those of the table.
+    /// closure is at rest. Keys may have been entered after those of the table.
     ///
     /// # Errors
     ///

@@ -72,7 +72,7 @@ module _ (nodes : List Node) (facts rest tail : List Fact) (fact : Fact) (is : r
     | inr both ↦ inr (keeps a both.0, keeps b both.1)
   ]
 
--- the two nodes that a claim says differ, once they are put behind others
+-- the two nodes that a claim says differ, once they are appended to others
 module _ (nodes : List Node) (claim : Claim) (ids one new : List ℕ) (x y : ℕ) (says : claim ≡ Differ x y)
     (first : one ≡ ids ++ x ∷ []) (second : new ≡ one ++ y ∷ []) where
   kept_one : (n : ℕ) → Contains one n → Contains new n

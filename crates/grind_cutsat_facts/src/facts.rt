@@ -85,7 +85,7 @@ impl Facts {
     ///
     /// # Errors
     ///
-    /// `Memory` where memory was wanted and there was none.
+    /// `Memory` if out of memory.
     pub fn copy(&self, alloc: Global) -> Result<Facts, Memory>
         ensures { IfOk result (λ facts. facts ≡ self.now) }
     {

@@ -27,7 +27,7 @@ use Rattle.grind_claims.specs.Claims.{AreOfOneSort, IsFormed}
 use Rattle.grind_term_rules.specs.TermRules.{IsEquation}
 use Rattle.grind_arithmetic_rules.specs.LinearRules.{IsComparison, IsRead, taken, combined}
 
--- what a step behind an option gives, its value gave
+-- what a step after an option gives, its value gave
 pub and_then_some : {A B : Type 0} (f : A → Option B) (o : Option A) (b : B) → option_and_then f o ≡ Some b
     → (a : A) × (o ≡ Some a) × (f a ≡ Some b)
 and_then_some f None b e = absurd (none-some b e)

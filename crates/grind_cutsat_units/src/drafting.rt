@@ -14,7 +14,7 @@ use std::alloc::Global;
 ///
 /// # Errors
 ///
-/// `Memory` where memory was wanted and there was none.
+/// `Memory` if out of memory.
 pub fn drafted(alloc: Global, view: &View, posts: &[Planned]) -> Result<Option<List<Draft>>, Memory>
     requires { Rest view.now.facts.now [] posts.now }
     ensures { IfOk result (λ found. MatchOption found (AllStand view.now.facts.now posts.now)

@@ -14,7 +14,7 @@ use Rattle.grind_linear_forms.specs.Readings.{linear}
 use Rattle.grind_linear_forms.specs.Laws.{ReadingsStay}
 use Rattle.grind_differences.specs.Differences.{is_number_sort, reading, difference}
 
--- what a step behind an option gives, its value gave
+-- what a step after an option gives, its value gave
 pub and_then_some : {A B : Type 0} (f : A → Option B) (o : Option A) (b : B) → option_and_then f o ≡ Some b
     → (a : A) × (o ≡ Some a) × (f a ≡ Some b)
 and_then_some f None b e = absurd (none-some b e)

@@ -145,7 +145,7 @@ module _ (whole : List Term) (parts : List Part) (rest : List Term) (so_far : Is
     so_far_product n [] e some = absurd (some refl)
     so_far_product n (k ∷ more) e some = at_monomial (n ∷ k ∷ more) e ∙ none_over parts n k more term.coefficient (form_of tail)
 
-    -- a number comes, and nothing behind it
+    -- a number comes, and nothing after it
     pub so_far_number : IsPoly rest → length term.monomial ≡ 0 → form_of whole ≡ Some (form_data parts term.coefficient)
     so_far_number falls none =
         let empty = empty_of term.monomial none in

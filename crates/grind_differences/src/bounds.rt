@@ -157,7 +157,7 @@ fn is_same_part(part: Part, other: Part) -> bool
 /// constant.
 ///
 /// # Errors
-/// `Memory` where memory was wanted and there was none.
+/// `Memory` if out of memory.
 pub fn is_within_cut(alloc: Global, sum: &Form, divisor: i128, form: &Form) -> Result<bool, Memory>
     ensures { IfOk result (λ yes. IsTrue yes ↔ IsWithinCut sum.now divisor form.now) }
 {

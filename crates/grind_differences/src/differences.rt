@@ -36,7 +36,7 @@ fn reading(alloc: Global, terms: &TermTable, node: NodeId) -> Result<Option<Form
 /// The reading of the first node less that of the second, where it is defined.
 ///
 /// # Errors
-/// `Memory` where memory was wanted and there was none.
+/// `Memory` if out of memory.
 pub fn difference(
     alloc: Global,
     terms: &TermTable,
@@ -71,7 +71,7 @@ pub(crate) fn less(alloc: Global, left: &Form, right: &Form) -> Result<Option<Fo
 /// Whether the form is the reading of the first less that of the second.
 ///
 /// # Errors
-/// `Memory` where memory was wanted and there was none.
+/// `Memory` if out of memory.
 pub fn is_difference(
     alloc: Global,
     terms: &TermTable,
@@ -91,7 +91,7 @@ pub fn is_difference(
 /// Whether the form is that and 1.
 ///
 /// # Errors
-/// `Memory` where memory was wanted and there was none.
+/// `Memory` if out of memory.
 pub fn is_difference_plus_one(
     alloc: Global,
     terms: &TermTable,
@@ -111,7 +111,7 @@ pub fn is_difference_plus_one(
 /// Whether the form is that and a number that is not negative.
 ///
 /// # Errors
-/// `Memory` where memory was wanted and there was none.
+/// `Memory` if out of memory.
 pub fn is_difference_or_more(
     alloc: Global,
     terms: &TermTable,
@@ -131,7 +131,7 @@ pub fn is_difference_or_more(
 /// Whether the form is that and a number of at least 1.
 ///
 /// # Errors
-/// `Memory` where memory was wanted and there was none.
+/// `Memory` if out of memory.
 pub fn is_more_than_difference(
     alloc: Global,
     terms: &TermTable,
@@ -151,7 +151,7 @@ pub fn is_more_than_difference(
 /// Whether the readings of the two differ by a number other than 0.
 ///
 /// # Errors
-/// `Memory` where memory was wanted and there was none.
+/// `Memory` if out of memory.
 pub fn are_apart_by_reading(
     alloc: Global,
     terms: &TermTable,
@@ -185,7 +185,7 @@ fn poly_reading(alloc: Global, terms: &TermTable, node: NodeId) -> Result<Option
 /// The polynomial of the first node less that of the second, where it is defined.
 ///
 /// # Errors
-/// `Memory` where memory was wanted and there was none.
+/// `Memory` if out of memory.
 pub fn poly_difference(
     alloc: Global,
     terms: &TermTable,
@@ -222,7 +222,7 @@ pub(crate) fn less_poly(alloc: Global, left: &Poly, right: &Poly) -> Result<Opti
 /// Whether the polynomial is that of the first node less that of the second.
 ///
 /// # Errors
-/// `Memory` where memory was wanted and there was none.
+/// `Memory` if out of memory.
 pub fn is_poly_difference(
     alloc: Global,
     terms: &TermTable,

@@ -120,7 +120,7 @@ pub fn is_other_than_zero(poly: &Poly) -> bool
 /// The polynomial as a linear form, where its degree is at most 1.
 ///
 /// # Errors
-/// `Memory` where memory was wanted and there was none.
+/// `Memory` if out of memory.
 pub fn form_of(alloc: Global, poly: &Poly) -> Result<Option<Form>, Memory>
     ensures { IfOk result (λ found. found ≡ form_of poly.now) }
 {

@@ -27,7 +27,7 @@ impl<'a> FormReader<'a> {
     /// Reads the whole numbers, in one pass over the table.
     ///
     /// # Errors
-    /// `Memory` where memory was wanted and there was none.
+    /// `Memory` if out of memory.
     pub fn new(
         alloc: Global,
         terms: &'a TermTable,
@@ -54,7 +54,7 @@ impl<'a> FormReader<'a> {
     /// The reading of the first less that of the second, where it is defined. Nothing is read again.
     ///
     /// # Errors
-    /// `Memory` where memory was wanted and there was none.
+    /// `Memory` if out of memory.
     pub fn difference(&self, alloc: Global, a: NodeId, b: NodeId) -> Result<Option<Form>, Memory>
         requires holds { HoldsForms self.now.terms.now.nodes self.now.ids.now self.now.forms }
         requires first { Contains self.now.ids.now a }
@@ -87,7 +87,7 @@ impl<'a> PolyReader<'a> {
     /// Reads the whole numbers, in one pass over the table.
     ///
     /// # Errors
-    /// `Memory` where memory was wanted and there was none.
+    /// `Memory` if out of memory.
     pub fn new(
         alloc: Global,
         terms: &'a TermTable,
@@ -114,7 +114,7 @@ impl<'a> PolyReader<'a> {
     /// The reading of the first less that of the second, where it is defined. Nothing is read again.
     ///
     /// # Errors
-    /// `Memory` where memory was wanted and there was none.
+    /// `Memory` if out of memory.
     pub fn difference(&self, alloc: Global, a: NodeId, b: NodeId) -> Result<Option<Poly>, Memory>
         requires holds { HoldsPolys self.now.terms.now.nodes self.now.ids.now self.now.polys }
         requires first { Contains self.now.ids.now a }

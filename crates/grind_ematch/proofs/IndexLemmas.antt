@@ -49,7 +49,7 @@ module _ (scene : Scene) where
         let same : is.1.0 ≡ node = some_is is.1.0 node (sym is.1.1 ∙ got) in
         never (function, subst (λ (it : Node). it.head ≡ Fun function) same is.1.2))
 
-    -- by what the calls answer: the node is put behind those of its function
+    -- by what the calls answer: the node is put after those of its function
     pub adds_by : (node : Node) (function : ℕ) (nodes more : List ℕ) (new : Entries) → IsActive scene.classes n
         → slice_get scene.nodes n ≡ Some node → node.head ≡ Fun function → nodes ≡ nodes_at old function → more ≡ nodes ++ n ∷ []
         → ((other : ℕ) → lookup (nat_eq other) new ≡ cond (nat_eq function other) (Some more) (lookup (nat_eq other) old))

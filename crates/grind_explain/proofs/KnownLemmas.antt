@@ -33,7 +33,7 @@ use Rattle.grind_explain.proofs.ChainLemmas.{IsKnown-stays}
 use Rattle.grind_explain.proofs.JoinLemmas.{All-others, zip_others}
 use Rattle.grind_explain.proofs.NotedLemmas.{Goes-none, Goes-through}
 
--- the same terms, after lines were put behind a proof
+-- the same terms, after lines were appended to a proof
 pub Fits-appends : (lemmas : Lemmas) (goal : GoalData) (old new : Proof) (branch : ℕ) (closure : Congruence) →
     Appends lemmas goal old new branch → Fits closure old.terms.nodes → Fits closure new.terms.nodes
 Fits-appends lemmas goal old new branch closure grown fits =

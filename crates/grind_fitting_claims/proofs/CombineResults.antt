@@ -65,7 +65,7 @@ next_is : (x m y next : ℤ) → next ≡ pos 1 *ℤ x +ℤ m *ℤ y → next �
 next_is x m y next e = e ∙ ap (λ (z : ℤ). z +ℤ m *ℤ y) (once x)
 
 module _ (sum form : FormData) (factor : ℤ) (factors : List ℤ) (forms : List FormData) where
-  -- what fits of one form, and of the others behind it
+  -- what fits of one form, and of the others after it
   fit_more : (next : FormData) → IsSumOf (pos 1) sum factor form next → SumFits (pos 1) sum factor form → AllFit next factors forms
       → AllFit sum (factor ∷ factors) (form ∷ forms)
   fit_more next is fits others = (λ n. at (at_node n) (is.nodes n) (fits.0 n) (others.0 n), at constant_in is.constants fits.1 others.1)

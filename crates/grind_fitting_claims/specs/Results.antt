@@ -106,7 +106,7 @@ total number [] forms = pos 0
 total number (factor ∷ factors) [] = pos 0
 total number (factor ∷ factors) (form ∷ forms) = factor *ℤ number form +ℤ total number factors forms
 
--- behind a sum, each of these products fits, and each sum up to there
+-- after a sum, each of these products fits, and each sum up to there
 abbrev pub SumsFit : (FormData → ℤ) → ℤ → List ℤ → List FormData → Type 0
 SumsFit number sum [] forms = ⊤
 SumsFit number sum (factor ∷ factors) [] = ⊤

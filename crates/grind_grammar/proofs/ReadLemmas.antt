@@ -168,7 +168,7 @@ is_sort_yes w (inl h) = or_left (is_name w) _ (is_name_yes w h)
 is_sort_yes w (inr (inl h)) = or_right (is_name w) _ (or_left (bytes_eq w (codes "Int")) _ (is_same_word w _ h))
 is_sort_yes w (inr (inr h)) = or_right (is_name w) _ (or_right (bytes_eq w (codes "Int")) _ (is_same_word w _ h))
 
--- what stands behind a choice
+-- what stands after a choice
 
 pub chosen_is : {A : Type 0} (b : Bool) {x : Option A} {y : A} → (if b then x else None) ≡ Some y → (b ≡ true) × (x ≡ Some y)
 chosen_is true e = (refl, e)

@@ -38,7 +38,7 @@ pub data IsFaultyEnd : List Lexeme → Fault → Type 0 where
   end_too_many_open : {piece : List Lexeme} → ¬ Within depth_limit 0 piece → IsFaultyEnd piece TooDeep
   unended : {piece : List Lexeme} → Within depth_limit 0 piece → IsFaultyEnd piece Syntax
 
--- a file: declarations, each with a dot behind it
+-- a file: declarations, each with a dot after it
 pub data DeclarationsOf : List Lexeme → List Declaration → Type 0 where
   nothing : DeclarationsOf [] []
   declared : {ls piece rest : List Lexeme} {declaration : Declaration} {declarations : List Declaration} →

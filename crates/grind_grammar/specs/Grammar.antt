@@ -160,7 +160,7 @@ pub data Hypotheses : List Lexeme → List Term → List Lexeme → Type 0 where
   no_hypotheses : {ls : List Lexeme} → Hypotheses ls [] ls
   hypotheses : {ls rest : List Lexeme} {hyps : List Term} → Separated Term Formula symbols.Semicolon ls hyps rest → Hypotheses ls hyps rest
 
--- a declaration, without the dot behind it
+-- a declaration, without the dot after it
 pub data Declares : List Lexeme → Declaration → List Lexeme → Type 0 where
   new_sort : {word name : List ℕ} {rest : List Lexeme} → word ≡ codes "sort" → IsName name → Declares (Word word ∷ Word name ∷ rest) (Sort name) rest
   new_function : {word name result : List ℕ} {sorts : List (List ℕ)} {ls rest : List Lexeme} → word ≡ codes "fun" → IsName name →

@@ -46,17 +46,17 @@ is_symbol sym (Word bytes) = false
 is_symbol sym (Number value) = false
 is_symbol sym (Symbol other) = nat_eq (symbol_number sym) (symbol_number other)
 
--- the lexemes behind a symbol at the front
+-- the lexemes after a symbol at the front
 unfoldable pub symbol_at : Sym → List Lexeme → Option (List Lexeme)
 symbol_at sym [] = None
 symbol_at sym (l ∷ ls) = if is_symbol sym l then Some ls else None
 
--- the lexemes behind a word at the front
+-- the lexemes after a word at the front
 unfoldable pub word_at : List ℕ → List Lexeme → Option (List Lexeme)
 word_at word (Word bytes ∷ ls) = if bytes_eq bytes word then Some ls else None
 word_at word _ = None
 
--- what was read, where this symbol stands behind it
+-- what was read, where this symbol stands after it
 unfoldable pub closed : {A : Type 0} → Sym → Read A → Read A
 closed sym = read_then (λ x rest. option_map (λ left. (x, left)) (symbol_at sym rest))
 
@@ -132,12 +132,12 @@ unfoldable pub applied : ℕ → List ℕ → Option (List Term) → Option Term
 applied limit name None = None
 applied limit name (Some ts) = fit limit (Apply name (row_from ts))
 
--- an operator at the front, and the lexemes behind it
+-- an operator at the front, and the lexemes after it
 unfoldable pub op_at : (Sym → Option Binary) → Reader Binary
 op_at ops (Symbol sym ∷ ls) = option_map (λ op. (op, ls)) (ops sym)
 op_at ops _ = None
 
--- a first part, and, behind an operator, a second one
+-- a first part, and, after an operator, a second one
 unfoldable pub joined_behind : ℕ → Reader (Option Term) → Option Term → List Lexeme → Read Binary → Read (Option Term)
 joined_behind limit second a rest None = read a rest
 joined_behind limit second a rest (Some p) = read_map (two limit p.0 a) (second p.1)
@@ -167,7 +167,7 @@ unfoldable pub signed : ℕ → Sym → Unary → Reader (Option Term) → Reade
 signed limit sym op part [] = part []
 signed limit sym op part (l ∷ ls) = if is_symbol sym l then read_map (one limit op) (signed limit sym op part ls) else part (l ∷ ls)
 
--- a name, and its parts where a parenthesis stands behind it
+-- a name, and its parts where a parenthesis stands after it
 unfoldable pub parts_behind : ℕ → Reader (Option Term) → List ℕ → List Lexeme → Option (List Lexeme) → Read (Option Term)
 parts_behind limit inner name rest None = read (fit limit (Apply name none)) rest
 parts_behind limit inner name rest (Some mid) =
@@ -220,7 +220,7 @@ unfoldable pub formula : ℕ → ℕ → Reader (Option Term)
 formula limit zero ls = None
 formula limit (suc room) ls = formula_over limit (formula limit room) ls
 
--- the names at the front, and the lexemes behind them
+-- the names at the front, and the lexemes after them
 unfoldable pub names : List Lexeme → List (List ℕ) × List Lexeme
 names (Word bytes ∷ ls) = if is_name bytes then (bytes ∷ (names ls).0, (names ls).1) else ([], Word bytes ∷ ls)
 names ls = ([], ls)
@@ -232,7 +232,7 @@ bound_to sort name = record { name = name; sort = sort }
 abbrev pub bounds_of : List (List ℕ) → List ℕ → List Bound
 bounds_of names sort = map (bound_to sort) names
 
--- the sort of names behind a colon
+-- the sort of names after a colon
 unfoldable pub group_behind : List (List ℕ) → Option (List Lexeme) → Read (List Bound)
 group_behind names None = None
 group_behind [] (Some rest) = None
@@ -275,7 +275,7 @@ annots_up_to item (suc fuel) ls = annots_behind item (annots_up_to item fuel) ls
 unfoldable pub annots : Reader (Option Term) → Reader (List (Option Annotation))
 annots item ls = annots_up_to item (suc (length ls)) ls
 
--- the hypotheses of a goal, with the turnstile behind them
+-- the hypotheses of a goal, with the turnstile after them
 unfoldable pub hyps_from : Reader (Option Term) → List Lexeme → Option (List Lexeme) → Read (List (Option Term))
 hyps_from item ls None = closed symbols.Turnstile (list_at item symbols.Semicolon ls)
 hyps_from item ls (Some rest) = read [] rest
@@ -283,7 +283,7 @@ hyps_from item ls (Some rest) = read [] rest
 unfoldable pub hyps : Reader (Option Term) → Reader (List (Option Term))
 hyps item ls = hyps_from item ls (symbol_at symbols.Turnstile ls)
 
--- the declarations of each kind, behind the name
+-- the declarations of each kind, after the name
 unfoldable pub function_of : List ℕ → Reader (Option Declaration)
 function_of name ls =
     read_then (λ sorts rest. read_map (λ result. Some (Fun name sorts result)) (sort_at rest))

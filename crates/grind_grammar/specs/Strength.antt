@@ -4,7 +4,7 @@ use Rattle.grind_tokens.specs.declared.tokens.Sym.{Sym}
 use Rattle.grind_tokens.specs.declared.tokens.Sym.TheVariants as symbols
 use Rattle.grind_grammar.specs.Lexemes.{Lexeme, Symbol}
 
--- how tightly a symbol behind a part goes on with it: 0 the most, 8 a symbol that goes on with none
+-- how tightly a symbol after a part goes on with it: 0 the most, 8 a symbol that goes on with none
 abbrev pub strength : Sym → ℕ
 strength symbols.LeftParen = 0
 strength symbols.Star = 1

@@ -130,7 +130,7 @@ fn plain_rule(word: &str) -> Option<Rule> {
     }
 }
 
-/// A rule, and the premises behind it.
+/// A rule, and the premises after it.
 #[derive(Drop)]
 struct Step {
     rule: Rule,
@@ -289,7 +289,7 @@ fn line_in(
 }
 
 /// The line that a text spells, as `1 trans 9 4 : same 13 10`, without the number of the line: its branch, its rule,
-/// and behind a colon its claim. None where it spells no line.
+/// and after a colon its claim. None where it spells no line.
 pub fn line_of(alloc: Global, text: &str) -> Result<Option<Line>, Memory> {
     let Some((before, behind)) = text.split_once(':') else {
         return Ok(None);

@@ -65,7 +65,7 @@ fn with_part(
 }
 
 /// The polynomial that the first words spell: the number of its terms, and each term as its coefficient, its degree and its
-/// nodes. Behind it the words that are left.
+/// nodes. After it the words that are left.
 pub fn poly_in<'a, 'b>(
     alloc: Global,
     words: &'b [&'a str],

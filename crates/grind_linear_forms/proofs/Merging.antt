@@ -75,7 +75,7 @@ in_front-append node (pos zero) rest = refl
 in_front-append node (pos (suc n)) rest = refl
 in_front-append node (negsuc n) rest = refl
 
--- a node with its coefficient was put behind what is done
+-- a node with its coefficient was appended to what is done
 pub behind-step : (done new : List Part) (node : ℕ) (c : Option ℤ) (rest : Option (List Part))
     → IsSomeAnd c (λ c. new ≡ done ++ in_front node c []) → behind done (front node c rest) ≡ behind new rest
 unfolding behind

@@ -12,7 +12,7 @@ use Rattle.grind_linear_forms.proofs.Linear.{linear}
 use Rattle.grind_linear_forms.proofs.Fits.{multiple_is, combination_is}
 use Rattle.grind_linear_forms.proofs.Merging.{multiplied-nil, multiplied-cons, merged-nil, merged-left, merged-less, merged-more, merged-same, both-some}
 
--- what stands behind a coefficient and the other parts of a sum
+-- what stands after a coefficient and the other parts of a sum
 pub front-some : (node : ℕ) (c : Option ℤ) (rest : Option (List Part)) (all : List Part) → front node c rest ≡ Some all
     → (d : ℤ) × (parts : List Part) × (c ≡ Some d) × (rest ≡ Some parts) × (in_front node d parts ≡ all)
 front-some node None rest all e = absurd (none-some all e)

@@ -41,7 +41,7 @@ unfoldable pub merged : ℤ → List Part → ℤ → List Part → Option (List
 merged m [] k ys = multiplied k ys
 merged m (x ∷ xs) k ys = merged_from m x k (merged m xs k) ys
 
--- the parts behind those that are done
+-- the parts after those that are done
 unfoldable pub behind : List Part → Option (List Part) → Option (List Part)
 behind done rest = option_map (λ parts. done ++ parts) rest
 

@@ -12,7 +12,7 @@ use std::marker::Model;
 pub enum FormRefusal {
     /// A product or a sum does not fit in 128 bits.
     Overflow,
-    /// Memory was wanted, and there was none.
+    /// Out of memory.
     Memory,
 }
 

@@ -36,7 +36,7 @@ pub fn linear_of(alloc: Global, table: &TermTable, id: NodeId) -> Result<Form, F
 ///
 /// # Errors
 ///
-/// `Memory` where memory was wanted and there was none.
+/// `Memory` if out of memory.
 pub fn linear_of_all(
     alloc: Global,
     table: &TermTable,

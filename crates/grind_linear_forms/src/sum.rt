@@ -41,7 +41,7 @@ pub fn scale(alloc: Global, a: &Form, m: i128) -> Result<Form, FormRefusal>
     Ok(Form { parts, constant })
 }
 
-// The parts taken m times, put behind those that are done.
+// The parts taken m times, put after those that are done.
 fn multiply(done: List<Part>, m: i128, parts: &[Part]) -> Result<List<Part>, FormRefusal>
     ensures ok { IfOk result (λ all. behind done (multiplied m parts.now) ≡ Some all) }
     ensures overflow { IsErrOf result FormRefusal.Overflow → behind done (multiplied m parts.now) ≡ None }
@@ -92,7 +92,7 @@ fn merge(
     multiply(done, k, others)
 }
 
-// Puts a node with its coefficient behind others, where the coefficient is defined and not 0.
+// Puts a node with its coefficient after others, where the coefficient is defined and not 0.
 fn append(done: &mut List<Part>, node: NodeId, coefficient: Option<i128>) -> Result<(), FormRefusal>
     ensures ok { OnOk result (IsSomeAnd coefficient (λ c. done.new ≡ done.old ++ in_front node c [])) }
     ensures overflow { IsErrOf result FormRefusal.Overflow → coefficient ≡ None }

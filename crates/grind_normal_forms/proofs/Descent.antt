@@ -203,7 +203,7 @@ is-found basis (t ∷ ts) found poly e =
         })
 
 -- ---- the step
--- the products with the terms behind the leading one are below m
+-- the products with the terms after the leading one are below m
 below-falls : (basis : List (List Term)) (m further lead : List ℕ) (bs : List Term) → IsMonomial further → IsMonomial lead
     → product further lead ≡ m → IsPoly bs → StartsBelow lead bs → AreBelow basis m further bs
 unfolding AreBelow

@@ -131,7 +131,7 @@ scaled-refused k u (t ∷ ts) e positive h fits =
       | inr later ↦ scaled-refused k u ts e positive (behind-refused (term_of later.0 t.monomial ∷ []) (scaled k ts) e later.2) fits.1
     ]
 
--- ---- a monomial more, behind greater ones
+-- ---- a monomial more, after greater ones
 abbrev AllAbove : List ℕ → List Term → Type 0
 AllAbove n [] = Unit {0}
 AllAbove n (t ∷ ts) = (place t.monomial n ≡ Above) × AllAbove n ts

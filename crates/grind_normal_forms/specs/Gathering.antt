@@ -42,7 +42,7 @@ factor_moved move false b q = scaled move.unit q
 abbrev pub before : Result (List Term) PolyRefusal → Result (List (List Term)) PolyRefusal → Result (List (List Term)) PolyRefusal
 before q rest = and_then (λ first. and_then (λ all. Ok (first ∷ all)) rest) q
 
--- further factors behind those that are done
+-- further factors after those that are done
 abbrev pub behind_all : List (List Term) → Result (List (List Term)) PolyRefusal → Result (List (List Term)) PolyRefusal
 behind_all done rest = and_then (λ all. Ok (done ++ all)) rest
 

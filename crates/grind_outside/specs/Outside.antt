@@ -13,7 +13,7 @@ next_count n = min (n + 1) (2 ^ 64 - 1)
 abbrev pub CountsFault : ℕ → ℕ → Type 0
 CountsFault before now = next_count before ≤ now
 
--- the bytes written so far, where they are told, and these bytes behind them
+-- the bytes written so far, where they are told, and these bytes after them
 abbrev pub appended : Option (List ℕ) → List ℕ → Option (List ℕ)
 appended None bytes = None
 appended (Some written) bytes = Some (written ++ bytes)

@@ -88,7 +88,7 @@ pub(crate) fn read_whole<F: Read>(
     Ok(bytes)
 }
 
-/// Reads once, and puts what came behind the bytes. Answers how many came, 0 at the end.
+/// Reads once, and appends what came to the bytes. Answers how many came, 0 at the end.
 fn read_piece<F: Read>(file: &mut F, bytes: &mut List<u8>, limit: u64) -> Result<usize, ReadRefusal>
     requires { length bytes.old ≤ limit }
     ensures came { IfOk result (λ n. (piece : List ℕ) × (length piece ≡ n)

@@ -1,7 +1,7 @@
-//! Want of memory.
+//! Out of memory.
 use std::alloc::{AllocError, AllocFailed};
 
-/// Memory was wanted, and there was none. No clause says when this comes.
+/// Out of memory. No clause says when this comes.
 #[derive(Clone, Copy, Debug, PartialEq, Eq)]
 pub struct Memory;
 

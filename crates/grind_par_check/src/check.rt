@@ -18,7 +18,7 @@ use std::thread::Threads;
 /// is bad, the first bad line. The lines are judged by so many jobs, and the answer is the same for each number of them.
 ///
 /// # Errors
-/// `Memory` where memory was wanted and there was none.
+/// `Memory` if out of memory.
 pub fn check_parallel(
     rt: &(impl Threads + Sync),
     alloc: Global,

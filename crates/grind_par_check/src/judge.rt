@@ -20,7 +20,7 @@ pub trait Judge: Sync {
     /// Whether item `i` is true.
     ///
     /// # Errors
-    /// `Memory` where memory was wanted and there was none.
+    /// `Memory` if out of memory.
     fn judge(&self, i: u32) -> Result<bool, Memory>
         requires { i < count self.now }
         ensures ok { IfOk result (λ answer. IsTrue answer ↔ holds self.now i) }

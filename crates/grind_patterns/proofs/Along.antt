@@ -21,7 +21,7 @@ module _ (P : Scheme → Type 0) (all : List Scheme) where
       let here : Any P (item ∷ drop (k + 1) all) = subst (Any P) (drop_at all k item below is) (left h) in
       elim (any_cases P item (drop (k + 1) all) here) [ inl p ↦ absurd (not_here p) | inr p ↦ p ]
 
-  -- behind the last none passes
+  -- after the last none passes
   pub none_left : (k : ℕ) → length all ≤ k → (Any P all → Any P (drop k all)) → ¬ Any P all
   none_left k past left h = any_none P (subst (Any P) (drop_all all k past) (left h))
 
@@ -34,7 +34,7 @@ module _ (P : Scheme → Type 0) (all : List Scheme) where
   all_left k item below is p left h =
       left (subst (All P) (sym (drop_at all k item below is)) (All-cons P item (drop (k + 1) all) p h))
 
-  -- behind the last all passed
+  -- after the last all passed
   pub all_done : (k : ℕ) → length all ≤ k → (All P (drop k all) → All P all) → All P all
   all_done k past left = left (subst (All P) (sym (drop_all all k past)) (All-nil P))
 

@@ -15,7 +15,7 @@ drop_at all k item below is =
     ∙ ap (λ (x : Scheme). x ∷ drop (suc k) all) (sym is)
     ∙ ap (λ (n : ℕ). item ∷ drop n all) next
 
--- behind the last nothing is left
+-- after the last nothing is left
 pub drop_all : (all : List Scheme) (k : ℕ) → length all ≤ k → drop k all ≡ []
 drop_all [] k past = drop-nil k
 drop_all (first ∷ rest) zero past = absurd (omega arith)
@@ -42,7 +42,7 @@ IsCopy-Apply head sort args others scheme items e f h =
     rw (mine, theirs) (rw f at h) in
     subst (IsCopy (Apply head sort args)) (sym e) (refl, refl, to_row one.0 one.1 other.0 other.1 copies)
 
--- what is left goes behind what is copied
+-- what is left goes after what is copied
 pub AreCopies-append : (xs ys zs ws : List Scheme) → AreCopies xs ys → AreCopies zs ws → AreCopies (xs ++ zs) (ys ++ ws)
 AreCopies-append [] [] zs ws h k = k
 AreCopies-append [] (y ∷ ys) zs ws h k = absurd h

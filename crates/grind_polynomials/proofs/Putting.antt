@@ -55,7 +55,7 @@ pub reverse-push : (rest : List Term) (x : Term) → reverse (rest ++ x ∷ []) 
 reverse-push rest x = reverse-append rest (x ∷ [])
 
 -- ---- the loop
--- the number is what the sum of the coefficient at the monomial and the addend is, and it is put behind what is done
+-- the number is what the sum of the coefficient at the monomial and the addend is, and it is appended to what is done
 pub closes : (done all others : List Term) (m : List ℕ) (number : Option ℤ) (z : ℤ)
     → MatchOption number (fit_or_refuse z ≡ Err Overflow) (λ y. fit_or_refuse z ≡ Ok y)
     → IsSomeAnd number (λ c. all ≡ done ++ in_front c m others) → behind done (front z m others) ≡ Ok all

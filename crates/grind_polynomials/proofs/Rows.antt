@@ -43,14 +43,14 @@ above-in_front (pos zero) m lower e = tt
 above-in_front (pos (suc n)) m lower e = (e, tt)
 above-in_front (negsuc n) m lower e = (e, tt)
 
--- what is put behind terms that stand above it is passed with them
+-- what is put after terms that stand above it is passed with them
 pub passed-closed : (m : List ℕ) (done all : List Term) (number : Option ℤ) → AreAbove m done
     → IsSomeAnd number (λ c. all ≡ done ++ in_front c m []) → ArePassed m all
 passed-closed m done all None above h = absurd h
 passed-closed m done all (Some c) above h = λ lower e.
     subst (AreAbove lower) (sym h) (above-append lower done (in_front c m []) (above-lower m lower done above e) (above-in_front c m lower e))
 
--- and the others stand behind it
+-- and the others stand after it
 pub closed-all : (done all others rest : List Term) (m : List ℕ) (number : Option ℤ)
     → IsSomeAnd number (λ c. all ≡ done ++ in_front c m []) → rest ≡ others
     → IsSomeAnd number (λ c. all ++ reverse rest ≡ done ++ in_front c m (reverse others))
@@ -59,7 +59,7 @@ closed-all done all others rest m (Some c) h e =
     (λ i. h i ++ reverse (e i)) ∙ append_assoc done (in_front c m []) (reverse others)
     ∙ ap (λ (terms : List Term). done ++ terms) (sym (in_front-append c m (reverse others)))
 
--- ---- a multiple is put behind what stands above it
+-- ---- a multiple is put after what stands above it
 behind-cons : (x : Term) (done : List Term) (rest : Result (List Term) PolyRefusal)
     → behind (x ∷ []) (behind done rest) ≡ behind (x ∷ done) rest
 behind-cons x done (Ok terms) = refl

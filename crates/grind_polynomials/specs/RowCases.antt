@@ -8,7 +8,7 @@ use Rattle.grind_monomials.specs.Monomials.{product, product_from}
 use Rattle.grind_polynomials.specs.Polynomials.{term_of}
 use Rattle.grind_polynomials.specs.Rows.{all_of, AreAbove, AreAboveNext}
 
--- the others stand behind what is done, in their order
+-- the others stand after what is done, in their order
 pub others_turn : all_of (record { done = term_of (pos 1) (2 ∷ 3 ∷ []) ∷ []; rest = term_of (pos 5) [] ∷ term_of (pos 4) (2 ∷ []) ∷ [] })
     ≡ term_of (pos 1) (2 ∷ 3 ∷ []) ∷ term_of (pos 4) (2 ∷ []) ∷ term_of (pos 5) [] ∷ []
 others_turn = refl

@@ -1,4 +1,4 @@
--- A sum in two parts: what stands above all products that are still to come, and the terms behind it.
+-- A sum in two parts: what stands above all products that are still to come, and the terms after it.
 use Rattle.std.specs.Prelude.{◌≡◌, ℕ, List, [], ◌∷◌, ◌++◌, reverse, ⊤}
 use Rattle.grind_monomials.specs.declared.order.Place.TheVariants.{Above}
 use Rattle.grind_monomials.specs.Order.{place}

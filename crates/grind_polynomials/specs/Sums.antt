@@ -29,7 +29,7 @@ in_front (negsuc n) monomial rest = term_of (negsuc n) monomial ∷ rest
 abbrev pub front : ℤ → List ℕ → List Term → Result (List Term) PolyRefusal
 front coefficient monomial rest = and_then (λ number. Ok (in_front number monomial rest)) (fit_or_refuse coefficient)
 
--- terms behind others
+-- terms after others
 abbrev pub behind : List Term → Result (List Term) PolyRefusal → Result (List Term) PolyRefusal
 behind done rest = and_then (λ terms. Ok (done ++ terms)) rest
 

@@ -16,7 +16,7 @@ pub enum PolyRefusal {
     Overflow,
     /// A product or a least common multiple has a degree over 16.
     Degree,
-    /// Memory was wanted, and there was none.
+    /// Out of memory.
     Memory,
 }
 

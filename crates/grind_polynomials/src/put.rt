@@ -17,7 +17,7 @@ use std::alloc::Global;
 pub(crate) struct Parts {
     // The first ones, which are done.
     pub(crate) done: List<Term>,
-    // Those behind them, last first.
+    // Those after them, last first.
     pub(crate) rest: List<Term>,
 }
 
@@ -100,7 +100,7 @@ pub(crate) fn put_behind(
     Ok(all)
 }
 
-// The terms that are done, a term behind them where its coefficient is defined and not 0, and the others, last first.
+// The terms that are done, a term after them where its coefficient is defined and not 0, and the others, last first.
 fn closed(
     done: List<Term>,
     coefficient: Option<i128>,
@@ -119,7 +119,7 @@ fn closed(
     Ok(Parts { done, rest: others })
 }
 
-// The terms, and one behind them where its coefficient is not 0.
+// The terms, and one after them where its coefficient is not 0.
 fn with_term(
     terms: List<Term>,
     coefficient: i128,
@@ -138,7 +138,7 @@ fn with_term(
     Ok(all)
 }
 
-// The terms, and others behind them, last first.
+// The terms, and others after them, last first.
 fn with_others(terms: List<Term>, others: List<Term>) -> Result<List<Term>, Memory>
     ensures { IfOk result (λ all. all ≡ terms ++ reverse others) }
 {

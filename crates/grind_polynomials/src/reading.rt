@@ -38,7 +38,7 @@ pub fn poly_of(alloc: Global, table: &TermTable, id: NodeId) -> Result<Poly, Pol
 ///
 /// # Errors
 ///
-/// `Memory` where memory was wanted and there was none.
+/// `Memory` if out of memory.
 pub fn poly_of_all(
     alloc: Global,
     table: &TermTable,

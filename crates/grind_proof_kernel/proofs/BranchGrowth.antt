@@ -1,4 +1,4 @@
--- What may be used still may be where branches and lines are put behind the others.
+-- What may be used still may be where branches and lines are appended to the others.
 use Rattle.std.proofs.Common.{◌≡◌, ℕ, Option, ◌≤◌, ◌++◌, List, [], ◌∷◌, Some, None, suc, zero, length, length-append, All, refl, ap, ◌∙◌, arith}
 use Rattle.std.specs.Prelude.{slice_get, option_and_then}
 use Rattle.std.specs.Option.{option_map}

@@ -11,19 +11,19 @@ use Rattle.grind_claims.specs.declared.proof.Proof.{Proof}
 use Rattle.grind_rules.specs.Laws.{IsPremiseCount}
 use Rattle.grind_proof_kernel.specs.Typing.{IsTypedAs, TypedLine, appended}
 
--- the new proof is the old one with more terms, more branches and more lines behind them
+-- the new proof is the old one with more terms, more branches and more lines after them
 pub record Extends (old new : Proof) : Type 0 where
   pub nodes : BeginsWith old.terms.nodes new.terms.nodes
   pub branches : (more : List Branch) × (new.branches ≡ old.branches ++ more)
   pub lines : (more : List Line) × (new.lines ≡ old.lines ++ more)
 
--- a line stays typed where terms, branches and lines are put behind the proof
+-- a line stays typed where terms, branches and lines are appended to the proof
 abbrev pub TypedLinesStay : Type 0
 TypedLinesStay =
     (lemmas : Lemmas) (goal : GoalData) (old new : Proof) (i : ℕ) →
     Extends old new → TypedLine lemmas goal old i → TypedLine lemmas goal new i
 
--- a line that is typed behind the lines of a proof is typed once it stands there
+-- a line that is typed after the lines of a proof is typed once it stands there
 abbrev pub TypedNextLine : Type 0
 TypedNextLine =
     (lemmas : Lemmas) (goal : GoalData) (proof : Proof) (line : Line) →

@@ -17,7 +17,7 @@ pub record IsSpan (lines : List Line) (branch : ℕ) (span : Span) : Type 0 wher
 abbrev pub AreSpans : List Line → List Span → Type 0
 AreSpans lines spans = (branch : ℕ) (span : Span) → branch < length spans → IsSpan lines branch (slice_index_or spans branch span)
 
--- one more line, behind so many, is noted
+-- one more line, after so many, is noted
 abbrev pub NotesLine : Line → ℕ → List Span → List Span → Type 0
 NotesLine line count old new = (lines : List Line) → length lines ≡ count → AreSpans lines old → AreSpans (lines ++ line ∷ []) new
 

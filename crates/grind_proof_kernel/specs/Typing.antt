@@ -89,7 +89,7 @@ abbrev pub StandsBefore : List Line → ℕ → ℕ → Type 0
 StandsBefore lines branch after =
     (i : ℕ) → IsSomeAnd (slice_get lines i) (λ (line : Line). line.branch ≡ branch) → i < after
 
--- each line of the branch stands at that line or behind it
+-- each line of the branch stands at that line or after it
 abbrev pub StandsBehind : List Line → ℕ → ℕ → Type 0
 StandsBehind lines branch after =
     (i : ℕ) → IsSomeAnd (slice_get lines i) (λ (line : Line). line.branch ≡ branch) → after ≤ i
@@ -102,13 +102,13 @@ last_in lines branch = find (λ (line : Line). line.branch == branch) (reverse l
 abbrev pub IsClosed : List Line → ℕ → Type 0
 IsClosed lines branch = IsSomeAnd (last_in lines branch) (λ (line : Line). line.claim ≡ Absurd)
 
--- what holds of every branch, the root too, from the line on at which it begins: its lines stand there or behind, and
+-- what holds of every branch, the root too, from the line on at which it begins: its lines stand there or after, and
 -- it is the parent of a pair, or its last line claims a contradiction
 pub record IsWhole (branches : List Branch) (lines : List Line) (branch after : ℕ) : Type 0 where
   pub stands : StandsBehind lines branch after
   pub ends : IsParent branches branch ⊎ IsClosed lines branch
 
--- the first branch of pair k goes on from a branch before it, at or behind the line at which that one begins and behind all
+-- the first branch of pair k goes on from a branch before it, at or after the line at which that one begins and after all
 -- of its lines; no earlier pair has this parent, and the other branch of the pair is listed
 pub record IsFirst (nodes : List Node) (branches : List Branch) (lines : List Line) (k : ℕ) (it : Branch) : Type 0 where
   pub other : k + k + 2 ≤ length branches

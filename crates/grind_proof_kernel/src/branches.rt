@@ -94,7 +94,7 @@ pub fn all_serve(branches: &[Branch], lines: &[Line], i: u32, branch: u32, premi
 /// The first bad branch, where there is one.
 ///
 /// # Errors
-/// `Memory` where memory was wanted and there was none.
+/// `Memory` if out of memory.
 pub fn first_bad_branch(alloc: Global, proof: &Proof) -> Result<Option<u32>, Memory>
     ensures { IfOk result (λ found. MatchOption found (HasGoodBranches proof.now) (λ first. IsFirstBadBranch proof.now first)) }
 {
@@ -131,7 +131,7 @@ fn is_good_branch(proof: &Proof, layout: &Layout, branch: u32) -> bool
     is_in_pair(proof, layout, branch, it) && is_whole(proof, layout, branch, it.after)
 }
 
-/// Whether the lines of the branch stand at that line or behind it, and the branch is the parent of a pair or closed.
+/// Whether the lines of the branch stand at that line or after it, and the branch is the parent of a pair or closed.
 fn is_whole(proof: &Proof, layout: &Layout, branch: u32, after: u32) -> bool
     requires layout { IsLayout proof.now layout.now }
     requires stands { branch ≤ length proof.now.branches }
@@ -141,7 +141,7 @@ fn is_whole(proof: &Proof, layout: &Layout, branch: u32, after: u32) -> bool
         && (is_parent(proof, layout, branch) || is_closed(proof, layout, branch))
 }
 
-/// Whether each line of the branch stands at that line or behind it.
+/// Whether each line of the branch stands at that line or after it.
 fn stands_behind(proof: &Proof, layout: &Layout, branch: u32, after: u32) -> bool
     requires layout { IsLayout proof.now layout.now }
     requires stands { branch ≤ length proof.now.branches }

@@ -1,4 +1,4 @@
-//! The checker: which lines are typed, which proofs are, and one more line behind a proof.
+//! The checker: which lines are typed, which proofs are, and one more line after a proof.
 ghost use Rattle.std.specs.Prelude.{IsTrue, ◌↔◌, ◌<◌, ◌≡◌, ◌≤◌, ℕ, length, All, IfOk, OnOk, OnErr, MatchOption};
 ghost use Rattle.grind_claims.specs.Claims.{IsFormed, AreClaimsAt, claims_of};
 ghost use Rattle.grind_proof_kernel.specs.Typing.{HasTerms, IsTypedAs, TypedLine, LinesAllow, IsGoodBranch, literal_of, appended};
@@ -32,7 +32,7 @@ pub enum Verdict {
 /// Whether line `i` of the proof is typed for this goal, with these theorems.
 ///
 /// # Errors
-/// `Memory` where memory was wanted and there was none.
+/// `Memory` if out of memory.
 pub fn check_line(
     alloc: Global,
     lemmas: &Lemmas,
@@ -101,7 +101,7 @@ fn claims_at<'a>(
 /// is bad, the first bad line.
 ///
 /// # Errors
-/// `Memory` where memory was wanted and there was none.
+/// `Memory` if out of memory.
 pub fn check(alloc: Global, lemmas: &Lemmas, goal: &Goal, proof: &Proof) -> Result<Verdict, Memory>
     requires { HasTerms goal.now proof.now }
     ensures { IfOk result (IsRight lemmas.now goal.now proof.now) }
@@ -119,10 +119,10 @@ pub fn check(alloc: Global, lemmas: &Lemmas, goal: &Goal, proof: &Proof) -> Resu
     Ok(Verdict::Typed)
 }
 
-/// Puts a line that is typed there behind the proof, and answers its number.
+/// Appends a line that is typed there to the proof, and answers its number.
 ///
 /// # Errors
-/// `Memory` where memory was wanted and there was none. The proof is then unchanged.
+/// `Memory` if out of memory. The proof is then unchanged.
 pub fn derive(
     _alloc: Global,
     lemmas: &Lemmas,

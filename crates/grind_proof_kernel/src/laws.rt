@@ -4,7 +4,7 @@ ghost use Rattle.grind_proof_kernel.specs.Laws.{TypedLinesStay, TypedNextLine, T
 use grind_claims::laws::{claims_count, claims_stay, formed_stays};
 use grind_rules::laws::{allowed_stays, premises_are_counted};
 
-/// A line stays typed where terms, branches and lines are put behind the proof.
+/// A line stays typed where terms, branches and lines are appended to the proof.
 pub fn typed_lines_stay()
     ensures { TypedLinesStay }
 {
@@ -13,7 +13,7 @@ pub fn typed_lines_stay()
     allowed_stays();
 }
 
-/// A line that is typed behind the lines of a proof is typed once it stands there.
+/// A line that is typed after the lines of a proof is typed once it stands there.
 pub fn typed_next_line()
     ensures { TypedNextLine }
 {

@@ -69,7 +69,7 @@ pub fn span_at(spans: &[Span], branch: usize) -> Span
     spans[branch]
 }
 
-/// The span with one more line, behind those that it has.
+/// The span with one more line, after those that it has.
 fn with_line(span: Span, i: u32, absurd: bool) -> Span
     requires { i < 4294967295 }
     ensures begin { result.begin ≡ min span.begin i }

@@ -14,7 +14,7 @@ use Rattle.grind_proof_writer.proofs.ListLemmas.{some_item, some_is, split_some,
 use Rattle.grind_proof_writer.proofs.ClosingLemmas.{IsElsewhere, closed_stays, closed_before}
 use Rattle.grind_proof_writer.proofs.PlaceLemmas.{ArePlaced, place_at, begins_within, parent_is_one}
 
--- lines behind a branch's beginning stay so
+-- lines after a branch's beginning stay so
 stands_behind : (lines more : List Line) (branch after : ℕ) → after ≤ length lines → StandsBehind lines branch after →
     StandsBehind (lines ++ more) branch after
 stands_behind lines more branch after within stands = λ i h.
@@ -23,7 +23,7 @@ stands_behind lines more branch after within stands = λ i h.
       | inr new ↦ omega (arith, new.0, within)
     ]
 
--- lines of another branch put none of this one behind a line
+-- lines of another branch put none of this one after a line
 stands_before : (lines more : List Line) (branch own after : ℕ) → ¬ (branch ≡ own) → All (λ (line : Line). line.branch ≡ own) more →
     StandsBefore lines branch after → StandsBefore (lines ++ more) branch after
 stands_before lines more branch own after other all stands = λ i h.

@@ -1,4 +1,4 @@
--- Lines written behind a proof, and what they leave as it was.
+-- Lines written after a proof, and what they leave as it was.
 use Rattle.std.specs.Prelude.{◌≡◌, ℕ, List, [], ◌∷◌, ◌++◌, Option, Some, None, All, length, slice_get, refl}
 use Rattle.std.specs.Option.{IsSomeAnd, option_map}
 use Rattle.std.proofs.Common.{arith, sym, ap, ◌∙◌, subst, inl, inr, append_assoc}
@@ -20,7 +20,7 @@ use Rattle.grind_proof_kernel.specs.Laws.{Extends, TypedLinesStay, TypedNextLine
 use Rattle.grind_proof_writer.specs.Lines.{AreTyped, IsReady, IsUsable, Tells, Appends, EndsWith, line_of}
 use Rattle.grind_proof_writer.proofs.ListLemmas.{within_some, one_more, some_is, behind_first}
 
--- nothing written behind a proof
+-- nothing written after a proof
 pub Appends-none : (lemmas : Lemmas) (goal : GoalData) (proof : Proof) (branch : ℕ) →
     AreTyped lemmas goal proof → Appends lemmas goal proof proof branch
 Appends-none lemmas goal proof branch typed = record {
@@ -30,13 +30,13 @@ Appends-none lemmas goal proof branch typed = record {
   typed = typed;
 }
 
--- nor behind one that is the same
+-- nor after one that is the same
 pub Appends-same : (lemmas : Lemmas) (goal : GoalData) (old new : Proof) (branch : ℕ) → new ≡ old →
     AreTyped lemmas goal old → Appends lemmas goal old new branch
 Appends-same lemmas goal old new branch same typed =
     subst (λ (proof : Proof). Appends lemmas goal old proof branch) (sym same) (Appends-none lemmas goal old branch typed)
 
--- more written behind what was written
+-- more written after what was written
 pub Appends-through : (lemmas : Lemmas) (goal : GoalData) (old mid new : Proof) (branch : ℕ) →
     Appends lemmas goal old mid branch → Appends lemmas goal mid new branch → Appends lemmas goal old new branch
 Appends-through lemmas goal old mid new branch first second =
@@ -108,7 +108,7 @@ pub claims_at-two : (proof : Proof) (branch first second : ℕ) (one other : Cla
 claims_at-two proof branch first second one other tells too =
     (claim_at-tells proof branch first one tells, (claim_at-tells proof branch second other too, tt))
 
--- a line that the rule lets claim this is typed behind the others
+-- a line that the rule lets claim this is typed after the others
 put_typed : (lemmas : Lemmas) (goal : GoalData) (proof : Proof) (branch : ℕ) (rule : Rule) (premises : List ℕ) (claim : Claim) →
     IsReady lemmas goal proof branch → IsFormed proof.terms.nodes claim → All (IsUsable proof branch) premises →
     LinesAllow lemmas goal proof.terms.nodes proof.lines (literal_of proof.branches branch) rule premises claim →
@@ -130,7 +130,7 @@ put_line_typed next lemmas goal proof branch rule premises claim ready formed us
     next lemmas goal proof (line_of branch rule premises claim)
     (put_typed lemmas goal proof branch rule premises claim ready formed usable says)
 
--- the proof with that line behind it
+-- the proof with that line after it
 pub put_appends : TypedLinesStay → (lemmas : Lemmas) (goal : GoalData) (old new : Proof) (branch : ℕ) (rule : Rule) (premises : List ℕ)
     (claim : Claim) → new ≡ appended old (line_of branch rule premises claim) → AreTyped lemmas goal old →
     TypedLine lemmas goal (appended old (line_of branch rule premises claim)) (length old.lines) → Appends lemmas goal old new branch

@@ -1,4 +1,4 @@
--- Items of lists, and of lists with more behind them.
+-- Items of lists, and of lists with more after them.
 use Rattle.std.specs.Prelude.{◌≡◌, ℕ, zero, suc, ◌+◌, ◌-◌, ◌<◌, ◌≤◌, ◌⊎◌, Bool, true, false, cond, List, [], ◌∷◌, ◌++◌, Option, Some, None, All, find, length, reverse, slice_get, refl}
 use Rattle.std.specs.Option.{IsSomeAnd, option_map}
 use Rattle.std.proofs.Common.{arith, sym, ap, ◌∙◌, subst, inl, inr, length-append}
@@ -25,7 +25,7 @@ within_some P (x ∷ xs) (suc i) h = let below = within_some P xs i h in omega a
 pub one_more : {X : Type 0} (xs : List X) (x : X) → length (xs ++ x ∷ []) ≡ length xs + 1
 one_more xs x = simp length-append (omega arith)
 
--- the first and the second item behind a list stand there
+-- the first and the second item after a list stand there
 pub behind_first : {X : Type 0} (xs ys : List X) (x : X) → slice_get (xs ++ x ∷ ys) (length xs) ≡ Some x
 behind_first [] ys x = refl
 behind_first (y ∷ xs) ys x = behind_first xs ys x
@@ -34,7 +34,7 @@ pub behind_second : {X : Type 0} (xs : List X) (x y : X) → slice_get (xs ++ x 
 behind_second [] x y = refl
 behind_second (z ∷ xs) x y = behind_second xs x y
 
--- an item of two lists, one behind the other, is one of the first or of the second
+-- an item of two lists, one after the other, is one of the first or of the second
 pub split_some : {X : Type 0} (P : X → Type 0) (xs ys : List X) (i : ℕ) → IsSomeAnd (slice_get (xs ++ ys) i) P →
     IsSomeAnd (slice_get xs i) P ⊎ ((length xs ≤ i) × (k : ℕ) × IsSomeAnd (slice_get ys k) P)
 split_some P [] ys i h = inr (omega arith, i, h)
@@ -57,7 +57,7 @@ field_holds_stays f P [] ys i h = absurd h
 field_holds_stays f P (x ∷ xs) ys zero h = h
 field_holds_stays f P (x ∷ xs) ys (suc i) h = field_holds_stays f P xs ys i h
 
--- the last item is the one behind all others
+-- the last item is the one after all others
 pub last_item : {X : Type 0} (P : X → Type 0) (xs : List X) (n : ℕ) → length xs ≡ n + 1 → IsSomeAnd (slice_get xs n) P →
     (front : List X) × (x : X) × (xs ≡ front ++ x ∷ []) × P x
 last_item P [] n e h = absurd h
@@ -67,7 +67,7 @@ last_item P (x ∷ xs) (suc n) e h =
     let rest = last_item P xs n (omega arith) h in
     (x ∷ rest.0, rest.1, ap (λ ys. x ∷ ys) rest.2, rest.3)
 
--- what holds of each item holds of each from behind
+-- what holds of each item holds of each from the end on
 pub All-reverse : {X : Type 0} (P : X → Type 0) (xs : List X) → All P xs → All P (reverse xs)
 All-reverse P xs all k d below =
     let within : k < length xs = omega (arith, length-reverse xs) in

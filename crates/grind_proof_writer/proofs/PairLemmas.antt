@@ -25,7 +25,7 @@ use Rattle.grind_proof_writer.proofs.ListLemmas.{some_item, some_is, within_some
 use Rattle.grind_proof_writer.proofs.ClosingLemmas.{IsElsewhere, unclosed_empty}
 use Rattle.grind_proof_writer.proofs.PlaceLemmas.{ArePlaced, parent_stays, parent_before, reaches_child, begin_stays, branch_stays, parent_of_first, begins_within, first_at, pairs_counted}
 
--- an earlier pair was one before others were put behind it
+-- an earlier pair was one before others were appended to it
 pair_before : (branches more : List Branch) (j parent : ℕ) → j + j + 2 ≤ length branches → IsPairOf (branches ++ more) j parent →
     IsPairOf branches j parent
 pair_before branches more j parent listed pair =
@@ -61,7 +61,7 @@ in_pair_keeps nodes branches more lines k b it (inl first) = inl (first.0, first
 in_pair_keeps nodes branches more lines k b it (inr second) =
     inr (second.0, branch_stays branches more (k + k + 1) (λ (first : Branch). IsSecond first it) second.1)
 
--- a branch begins within the lines, also where others were put behind
+-- a branch begins within the lines, also where others were put after
 begin_low : (proof : Proof) (more : List Branch) (branch : ℕ) → ArePlaced proof → branch ≤ length proof.branches →
     IsSomeAnd (begin_of (proof.branches ++ more) branch) (λ after. after ≤ length proof.lines)
 begin_low proof more zero places few = omega arith
@@ -88,7 +88,7 @@ elsewhere_above proof branch low high =
     All-weaker (λ (line : Line). line.branch ≤ length proof.branches) (IsElsewhere branch)
     (λ line few is. omega (arith, few, is, high)) proof.lines low
 
--- no parent of a pair stands behind the branches
+-- no parent of a pair stands after the branches
 no_parent_above : (proof : Proof) (branch : ℕ) → ArePlaced proof → length proof.branches < branch → IsParent proof.branches branch → ⊥
 no_parent_above proof branch places high (j, (listed, is)) =
     let P : Branch → Type 0 = IsPlacedSoFar proof.terms.nodes proof.branches proof.lines (suc (j + j)) in

@@ -1,4 +1,4 @@
--- The places of branches, and what stays where branches are put behind the others.
+-- The places of branches, and what stays where branches are appended to the others.
 use Rattle.std.specs.Prelude.{◌≡◌, ℕ, zero, suc, ◌+◌, ◌<◌, ◌≤◌, List, ◌++◌, Option, Some, None, length, slice_get, option_and_then, refl}
 use Rattle.std.specs.Option.{IsSomeAnd, option_map}
 use Rattle.std.proofs.Common.{arith, sym, ap, ◌∙◌, subst, inl, inr, length-append}

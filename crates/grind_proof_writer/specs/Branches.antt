@@ -24,7 +24,7 @@ pub record IsOpen (proof : Proof) (branch : ℕ) : Type 0 where
   pub leaf : IsLeaf proof.branches branch
   pub unclosed : ¬ IsClosed proof.lines branch
 
--- a listed branch is as its place in its pair asks, and its lines stand at the line at which it begins or behind
+-- a listed branch is as its place in its pair asks, and its lines stand at the line at which it begins or after
 pub record IsPlacedSoFar (nodes : List Node) (branches : List Branch) (lines : List Line) (branch : ℕ) (it : Branch) : Type 0 where
   pub pair : (k : ℕ) × IsInPair nodes branches lines k branch it
   pub stands : StandsBehind lines branch it.after
@@ -46,12 +46,12 @@ pub record IsGoodSoFar (lemmas : Lemmas) (goal : GoalData) (proof : Proof) : Typ
 abbrev pub IsFinished : Proof → Type 0
 IsFinished proof = (b : ℕ) → b ≤ length proof.branches → IsParent proof.branches b ⊎ IsClosed proof.lines b
 
--- the proof with two branches behind the others
+-- the proof with two branches after the others
 abbrev pub with_branches : Proof → Branch → Branch → Proof
 with_branches proof one other =
     record { terms = proof.terms; branches = proof.branches ++ one ∷ other ∷ []; lines = proof.lines }
 
--- the proof with a pair below this branch, which begins behind all lines and assumes these two
+-- the proof with a pair below this branch, which begins after all lines and assumes these two
 abbrev pub with_pair : Proof → ℕ → Claim → Claim → Proof
 with_pair proof parent one other =
     with_branches proof (record { parent = parent; after = length proof.lines; literal = one })
@@ -70,7 +70,7 @@ pub record IsChild (old new : Proof) (parent child : ℕ) (literal : Claim) : Ty
   pub literal_is : literal_of new.branches child ≡ Some literal
   pub reaches : (above : ℕ) → Reaches old.branches above parent → Reaches new.branches above child
 
--- the new proof has a pair below this branch, the two branches behind all others, and nothing else is changed
+-- the new proof has a pair below this branch, the two branches after all others, and nothing else is changed
 pub record SplitsLeaf (old new : Proof) (parent : ℕ) (one other : Claim) : Type 0 where
   pub is : new ≡ with_pair old parent one other
   pub parent_is : IsParent new.branches parent

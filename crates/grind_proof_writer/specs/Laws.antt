@@ -45,7 +45,7 @@ AbsurdCloses =
     (proof : Proof) (branch number : ℕ) (claim : Claim) → EndsWith proof branch number claim →
     IsClosed proof.lines branch ↔ (claim ≡ Absurd)
 
--- what a line tells in a branch it still tells where terms, branches and lines are put behind the proof
+-- what a line tells in a branch it still tells where terms, branches and lines are appended to the proof
 abbrev pub TellsStays : Type 0
 TellsStays =
     (old new : Proof) (branch number : ℕ) (claim : Claim) → Extends old new →

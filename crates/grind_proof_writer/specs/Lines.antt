@@ -1,4 +1,4 @@
--- Lines of a proof that is being written: which may be cited in a branch, and what lines put behind a proof leave as it was.
+-- Lines of a proof that is being written: which may be cited in a branch, and what lines put after a proof leave as it was.
 use Rattle.std.specs.Prelude.{◌≡◌, ℕ, ◌+◌, ◌<◌, List, ◌++◌, All, length, slice_get}
 use Rattle.std.specs.Option.{IsSomeAnd}
 use Rattle.grind_schemes.specs.Goals.{GoalData}
@@ -34,7 +34,7 @@ EndsWith proof branch number claim =
     (length proof.lines ≡ number + 1)
     × IsSomeAnd (slice_get proof.lines number) (λ (line : Line). (line.branch ≡ branch) × (line.claim ≡ claim))
 
--- the new proof has the terms and branches of the old one and its lines, with lines of that branch behind them, and each of
+-- the new proof has the terms and branches of the old one and its lines, with lines of that branch after them, and each of
 -- its lines is typed
 pub record Appends (lemmas : Lemmas) (goal : GoalData) (old new : Proof) (branch : ℕ) : Type 0 where
   pub terms : new.terms ≡ old.terms

@@ -32,7 +32,7 @@ pub fn absurd_closes()
 {}
 
 #[tactic(auto, using(crate::proofs::PlaceLemmas::tells_stays))]
-/// What a line tells in a branch it still tells where terms, branches and lines are put behind the proof.
+/// What a line tells in a branch it still tells where terms, branches and lines are appended to the proof.
 pub fn tells_stays()
     ensures { TellsStays }
 {}

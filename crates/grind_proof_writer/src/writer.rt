@@ -1,4 +1,4 @@
-//! Lines and pairs of branches, written behind a proof.
+//! Lines and pairs of branches, written after a proof.
 ghost use Rattle.std.specs.Prelude.{◌≡◌, ℕ, ◌+◌, ◌<◌, ◌∷◌, [], All, IfOk, OnOk, OnErr, length};
 ghost use Rattle.grind_claims.specs.declared.claim.Claim.TheVariants.{Same, Absurd};
 ghost use Rattle.grind_claims.specs.declared.proof.Rule.TheVariants.{Clash};
@@ -163,7 +163,7 @@ impl<'a> Writer<'a> {
         Ok(number)
     }
 
-    /// Writes an equality turned round.
+    /// Writes symmetry: from a = b follows b = a.
     ///
     /// # Errors
     /// `Memory`. The proof is then unchanged.
@@ -241,7 +241,7 @@ impl<'a> Writer<'a> {
     }
 }
 
-// Puts two branches behind the others, or none.
+// Appends two branches to the others, or none.
 fn put_pair(proof: &mut Proof, first: Branch, second: Branch) -> Result<(), Memory>
     ensures ok { OnOk result (proof.new ≡ with_branches proof.old first second) }
     ensures err { OnErr result (proof.new ≡ proof.old) }

@@ -150,7 +150,7 @@ readers-end nodes marks readers all a =
     (λ n reads. all.above n a (slice_get_within marks n true reads.2) reads, all.there a)
 
 -- ---- uses
--- the roots are used behind all marked nodes, the other nodes by their last readers
+-- the roots are used after all marked nodes, the other nodes by their last readers
 pub uses-are : (nodes : List Node) (marks : List Bool) (roots readers uses : List ℕ)
     → ((a : ℕ) → IsLastReader nodes marks a (reader_at readers a))
     → ((a : ℕ) → (reader_at uses a ≡ reader_at readers a) ⊎ (Contains roots a × (reader_at uses a ≡ length marks)))

@@ -185,7 +185,7 @@ let_go-ends uses n old new args rest none so_far = λ k d h.
 
 -- ---- what is held
 module _ (nodes : List Node) (roots : List ℕ) (marks : List Bool) (uses : List ℕ) (course : IsCourse nodes roots marks uses) where
-  -- a marked node has its last use behind it
+  -- a marked node has its last use after it
   used-later : (n : ℕ) → IsNeeded nodes roots n → n < reader_at uses n
   used-later n (root among) =
       let inside : n < length marks = All-contains (λ root. root < length marks) roots n course.roots_within among in

@@ -26,7 +26,7 @@ IsLastReader nodes marks a last = ((n : ℕ) → IsReader nodes marks n a → n 
 abbrev pub reader_at : List ℕ → ℕ → ℕ
 reader_at readers a = slice_index_or readers a 0
 
--- the last use of the reading of a: that of a root comes behind all marked nodes, and that of another node is its last reader
+-- the last use of the reading of a: that of a root comes after all marked nodes, and that of another node is its last reader
 abbrev pub IsLastUse : List Node → List Bool → List ℕ → ℕ → ℕ → Type 0
 IsLastUse nodes marks roots a last = (Contains roots a × (last ≡ length marks)) ⊎ IsLastReader nodes marks a last
 

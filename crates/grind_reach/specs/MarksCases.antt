@@ -15,7 +15,7 @@ marks = true ∷ true ∷ true ∷ true ∷ []
 sum_is_a_reader : IsReader terms marks 3 1
 sum_is_a_reader = (record { head = head.Add; sort = 1; args = 1 ∷ 2 ∷ [] }, refl, refl, refl, (0, omega arith, refl))
 
--- no node behind the sum is there
+-- no node after the sum is there
 pub sum_is_the_last : IsLastReader terms marks 1 3
 sum_is_the_last = (λ n reads. let inside : n < 4 = slice_get_within terms n reads.0 reads.1 in omega arith, inr sum_is_a_reader)
 
@@ -23,7 +23,7 @@ sum_is_the_last = (λ n reads. let inside : n < 4 = slice_get_within terms n rea
 pub function_is_not_the_last : IsLastReader terms marks 1 2 → ⊥
 function_is_not_the_last last = let too_low = last.0 3 sum_is_a_reader in absurd (omega arith)
 
--- the sum is a root, and is used behind all
+-- the sum is a root, and is used after all
 pub sum_is_used_last : IsLastUse terms marks (3 ∷ []) 3 4
 sum_is_used_last = inl ((0, omega arith, refl), refl)
 

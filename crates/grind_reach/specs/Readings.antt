@@ -49,7 +49,7 @@ reading_of by look n (head.Const constant) args = by.atom_of n
 abbrev pub found : {R : Type 0} → List (Option R) → ℕ → Option R
 found list n = option_and_then (λ reading. reading) (slice_get list n)
 
--- the readings of nodes, behind those of the nodes before them
+-- the readings of nodes, after those of the nodes before them
 unfoldable pub readings : {R : Type 0} → Operations R → List (Option R) → List Node → List (Option R)
 readings by done [] = done
 readings by done (node ∷ rest) = readings by (done ++ reading_of by (found done) (length done) node.head node.args ∷ []) rest

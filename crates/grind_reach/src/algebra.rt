@@ -7,7 +7,7 @@ use grind_term_graph::NodeId;
 use std::alloc::Global;
 
 /// What terms are read as, with the operations that read them. Each operation may have no answer, and says so by None.
-/// Each fails with `Memory` where memory was wanted and there was none.
+/// Each fails with `Memory` if out of memory.
 pub trait Algebra: Drop {
     ghost operations: { Operations Self };
 

@@ -33,7 +33,7 @@ pub fn last_readers(alloc: Global, table: &TermTable, marks: &[bool]) -> Result<
     Ok(readers)
 }
 
-/// For each node that has a mark, the last use of its reading: a root's comes behind all marked nodes, and that of
+/// For each node that has a mark, the last use of its reading: a root's comes after all marked nodes, and that of
 /// another node is its last reader.
 ///
 /// # Errors

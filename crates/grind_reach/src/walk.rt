@@ -15,7 +15,7 @@ use std::alloc::Global;
 ///
 /// # Errors
 ///
-/// `Memory` where memory was wanted and there was none.
+/// `Memory` if out of memory.
 pub fn read_term<R: Algebra>(
     alloc: Global,
     table: &TermTable,
@@ -34,7 +34,7 @@ pub fn read_term<R: Algebra>(
 ///
 /// # Errors
 ///
-/// `Memory` where memory was wanted and there was none.
+/// `Memory` if out of memory.
 pub fn read_all<R: Algebra>(
     alloc: Global,
     table: &TermTable,

@@ -4,17 +4,17 @@ use Rattle.std.proofs.lemmas.Grind.{flat_map-append}
 use Rattle.std.proofs.lemmas.List.Elements.{All-from_recursion, recursion_from_All}
 use Rattle.grind_report.specs.Report.{spaced, paired}
 
--- what is true of an item and of all behind it is true of the whole
+-- what is true of an item and of all after it is true of the whole
 pub all_before : {A : Type 0} (P : A → Type 0) (whole : List A) (x : A) (rest : List A) → whole ≡ x ∷ rest → P x → All P rest → All P whole
 all_before P whole x rest e here behind =
     subst (λ xs. All P xs) (sym e) (All-from_recursion P (x ∷ rest) (here, recursion_from_All P rest behind))
 
--- two pieces of a line, one behind the other
+-- two pieces of a line, one after the other
 pieces : (start : List ℕ) (a b : List (List ℕ)) → (start ++ spaced a) ++ spaced b ≡ start ++ spaced (a ++ b)
 pieces start a b =
     append_assoc start (spaced a) (spaced b) ∙ ap (λ (bytes : List ℕ). start ++ bytes) (sym (flat_map-append (λ (word : List ℕ). 32 ∷ word) a b))
 
--- what is printed of one pair, with what is left behind it
+-- what is printed of one pair, with what is left after it
 pub pair_printed : {A : Type 0} (words : A → ℕ → List (List ℕ)) (a b : List (List ℕ)) (whole before middle after : List ℕ)
     (others : List A) (factor : A) (left : List A) (rest : List ℕ) (premise : ℕ) (tail : List ℕ)
     → before ++ spaced (paired words others rest) ≡ whole → others ≡ factor ∷ left → rest ≡ premise ∷ tail

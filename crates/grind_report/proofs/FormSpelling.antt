@@ -43,7 +43,7 @@ terms_from zero words = []
 terms_from (suc count) words =
     term_of (integer (first_of words)) (first_items (one_of words) (rest_of (rest_of words))) ∷ terms_from count (drop (one_of words) (rest_of (rest_of words)))
 
--- a monomial of this coefficient and degree, and so many others behind it
+-- a monomial of this coefficient and degree, and so many others after it
 abbrev term_before : ℕ → ℤ → ℕ → List (List ℕ) → List Term
 term_before count coefficient degree words = term_of coefficient (first_items degree words) ∷ terms_from count (drop degree words)
 
@@ -101,7 +101,7 @@ behind_same a b p q xs ys ha hb hp hq e =
 behind_no_colon : (a : List Term) (p : ℕ) (xs ys : List (List ℕ)) → PolyFits a → IsShort p → codes ":" ∷ xs ≡ factor_behind a p ++ ys → ⊥
 behind_no_colon a p xs ys ha hp e = no_colon p hp (first_is (codes ":") (decimal p) xs (poly_words a ++ ys) e)
 
--- the factors and premises before a colon, and what is behind it
+-- the factors and premises before a colon, and what is after it
 same_paired : {A : Type 0} (words : A → ℕ → List (List ℕ)) (Fits : A → Type 0)
     (same : (a b : A) (p q : ℕ) (xs ys : List (List ℕ)) → Fits a → Fits b → IsShort p → IsShort q → words a p ++ xs ≡ words b q ++ ys → AreSame a b p q xs ys)
     (other : (a : A) (p : ℕ) (xs ys : List (List ℕ)) → Fits a → IsShort p → codes ":" ∷ xs ≡ words a p ++ ys → ⊥)
@@ -142,7 +142,7 @@ pub same_combined : (lefts : List ℤ) (ps : List ℕ) (rights : List ℤ) (qs :
     → paired factor_first lefts ps ++ codes ":" ∷ xs ≡ paired factor_first rights qs ++ codes ":" ∷ ys → (lefts ≡ rights) × (ps ≡ qs) × (xs ≡ ys)
 same_combined = same_paired factor_first IsWide first_same first_no_colon
 
--- and with polynomials behind premises
+-- and with polynomials after premises
 pub same_gathered : (lefts : List (List Term)) (ps : List ℕ) (rights : List (List Term)) (qs : List ℕ) (xs ys : List (List ℕ)) → length ps ≡ length lefts → length qs ≡ length rights
     → AllByRecursion PolyFits lefts → AllByRecursion PolyFits rights → AllByRecursion IsShort ps → AllByRecursion IsShort qs
     → paired factor_behind lefts ps ++ codes ":" ∷ xs ≡ paired factor_behind rights qs ++ codes ":" ∷ ys → (lefts ≡ rights) × (ps ≡ qs) × (xs ≡ ys)

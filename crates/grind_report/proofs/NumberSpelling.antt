@@ -107,7 +107,7 @@ unfolding first_items
 first_items-back [] words h = refl
 first_items-back (n ∷ ns) words h = let one = number_back n h.0 in let more = first_items-back ns words h.1 in ap (λ (x : ℕ). x ∷ first_items (length ns) (map decimal ns ++ words)) one ∙ ap (λ (rest : List ℕ). n ∷ rest) more
 
--- what is behind them
+-- what is after them
 pub past_items-back : (ns : List ℕ) (words : List (List ℕ)) → drop (length ns) (map decimal ns ++ words) ≡ words
 past_items-back [] words = refl
 past_items-back (n ∷ ns) words = past_items-back ns words

@@ -73,7 +73,7 @@ before_colon-back (n ∷ ns) words h =
     ap (λ (b : Bool). cond b [] (number (decimal n) ∷ rest)) other
     ∙ ap (λ (x : ℕ). x ∷ rest) (number_back n h.0) ∙ ap (λ (others : List ℕ). n ∷ others) (before_colon-back ns words h.1)
 
--- what stands behind the words of a rule: a colon where the rule lists nodes without their count
+-- what stands after the words of a rule: a colon where the rule lists nodes without their count
 abbrev Follows : Rule → List (List ℕ) → Type 0
 Follows (rules_of.Inst t ids) words = (more : List (List ℕ)) × (words ≡ codes ":" ∷ more)
 Follows (rules_of.Hyp i) words = Unit {0}
@@ -100,7 +100,7 @@ Follows rules_of.Equal words = Unit {0}
 Follows rules_of.Apart words = Unit {0}
 Follows rules_of.Clash words = Unit {0}
 
--- behind no premises stands a colon
+-- after no premises stands a colon
 colon_first : (premises : List ℕ) (words : List (List ℕ)) → length premises ≡ 0
     → (more : List (List ℕ)) × (map decimal premises ++ codes ":" ∷ words ≡ codes ":" ∷ more)
 colon_first [] words e = (words, refl)
@@ -219,7 +219,7 @@ claim_back claims.Absurd fits = refl
 same_claim : (a b : Claim) → ClaimFits a → ClaimFits b → claim_words a ≡ claim_words b → a ≡ b
 same_claim a b ha hb e = sym (claim_back a ha) ∙ ap claim_from e ∙ claim_back b hb
 
--- the numbers before a colon, and what is behind it
+-- the numbers before a colon, and what is after it
 same_premises : (ms ns : List ℕ) (xs ys : List (List ℕ)) → AllByRecursion IsShort ms → AllByRecursion IsShort ns
     → map decimal ms ++ codes ":" ∷ xs ≡ map decimal ns ++ codes ":" ∷ ys → (ms ≡ ns) × (xs ≡ ys)
 same_premises [] [] xs ys hm hn e = (refl, rest_is (codes ":") (codes ":") xs ys e)
@@ -236,7 +236,7 @@ same_premises (m ∷ ms) (n ∷ ns) xs ys hm hn e =
 abbrev AreOneLine : Rule → Rule → List ℕ → List ℕ → List (List ℕ) → List (List ℕ) → Type 0
 AreOneLine a b ps qs xs ys = (a ≡ b) × (ps ≡ qs) × (xs ≡ ys)
 
--- the factors and premises of a rule before a colon, and what is behind it
+-- the factors and premises of a rule before a colon, and what is after it
 same_whole : {a b : Rule} → Shape a → Shape b → (ps qs : List ℕ) (xs ys : List (List ℕ)) → FactorsFit a → FactorsFit b
     → TakesPremises a (length ps) → TakesPremises b (length qs) → AllByRecursion IsShort ps → AllByRecursion IsShort qs → bare a ≡ bare b
     → premise_words a ps ++ codes ":" ∷ xs ≡ premise_words b qs ++ codes ":" ∷ ys → AreOneLine a b ps qs xs ys
@@ -305,7 +305,7 @@ same_branch a b ha hb e =
     let literal : a.literal ≡ b.literal = same_claim a.literal b.literal ha.literal hb.literal (rest_is (decimal a.after) (decimal b.after) (claim_words a.literal) (claim_words b.literal) rest) in
     ap (λ (x : ℕ). branch_of_parts x a.after a.literal) parent ∙ ap (λ (x : ℕ). branch_of_parts b.parent x a.literal) after ∙ ap (λ (x : Claim). branch_of_parts b.parent b.after x) literal
 
--- ---- lines behind indices
+-- ---- lines after indices
 
 same_indexed : {A : Type 0} (words : A → List (List ℕ)) (Fits : A → Type 0) (inject : (a b : A) → Fits a → Fits b → words a ≡ words b → a ≡ b)
     (index : ℕ) (lefts rights : List A) (p q : List (List (List ℕ))) → AllByRecursion Fits lefts → AllByRecursion Fits rights → length lefts ≡ length rights
@@ -348,7 +348,7 @@ lines_page proof = counted_lines (codes "lines") line_words 0 proof.lines
 abbrev proof_page : RawProof → List (List (List ℕ))
 proof_page proof = terms_page proof ++ (branches_page proof ++ lines_page proof)
 
--- three pieces before a rest, one behind the other
+-- three pieces before a rest, one after the other
 regrouped : (a b c p : List (List (List ℕ))) → (a ++ (b ++ c)) ++ p ≡ a ++ (b ++ (c ++ p))
 regrouped a b c p = append_assoc a (b ++ c) p ∙ ap (λ (rest : List (List (List ℕ))). a ++ rest) (append_assoc b c p)
 

@@ -1,4 +1,4 @@
--- Lines behind their indices, one more at a time.
+-- Lines after their indices, one more at a time.
 use Rattle.std.proofs.Common.{◌≡◌, ℕ, ◌+◌, ◌<◌, List, [], ◌∷◌, ◌++◌, length, take, get_or, map, decimal, refl, sym, ap, ◌∙◌, append_assoc, arith}
 use Rattle.std.specs.Prelude.{codes}
 use Rattle.std.proofs.lemmas.List.{take_more, append-nil, length-take, length-map}
@@ -29,7 +29,7 @@ spelled-more {A} words first items i item low here =
     ∙ spelled-push before (decimal (first + length (take i items)) ∷ words item)
     ∙ ap (λ (k : ℕ). spelled before ++ line_bytes (decimal k ∷ words item)) count
 
--- what was printed, with the line of one more item behind it
+-- what was printed, with the line of one more item after it
 pub next_line : {A : Type 0} (words : A → List (List ℕ)) (first index : ℕ) (items : List A) (i : ℕ) (item : A) (start before after : List ℕ) → i < length items → item ≡ get_or items i item
     → before ≡ start ++ spelled (indexed_lines words first (take i items)) → index ≡ first + i → after ≡ before ++ line_bytes (decimal index ∷ words item)
     → after ≡ start ++ spelled (indexed_lines words first (take (i + 1) items))
@@ -47,7 +47,7 @@ counted_lines-map title words f index items =
     ap (λ (k : ℕ). (title ∷ decimal k ∷ []) ∷ indexed_lines words index (map f items)) (length-map items f)
     ∙ ap (λ page. (title ∷ decimal (length items) ∷ []) ∷ page) (indexed_lines-map words f index items)
 
--- four pieces, one behind the other
+-- four pieces, one after the other
 four_pieces : (start a b c d one two three four : List ℕ) → one ≡ start ++ a → two ≡ one ++ b → three ≡ two ++ c → four ≡ three ++ d → four ≡ start ++ (a ++ (b ++ (c ++ d)))
 four_pieces start a b c d one two three four e1 e2 e3 e4 = rw (e4, e3, e2, e1) (simp append_assoc)
 

@@ -1,4 +1,4 @@
--- How the printer takes terms and rules apart: a first word, and the words behind it.
+-- How the printer takes terms and rules apart: a first word, and the words after it.
 use Rattle.std.specs.Prelude.{ℕ, List, [], ◌∷◌, length, map, codes, decimal}
 use Rattle.std.specs.Fmt.{signed_decimal}
 use Rattle.grind_term_graph.specs.declared.head.Head.{Head}
@@ -26,7 +26,7 @@ head_word heads.Mul = codes "mul"
 head_word (heads.Fun number) = codes "fun"
 head_word (heads.Const number) = codes "const"
 
--- the words behind it, at these arguments
+-- the words after it, at these arguments
 abbrev pub head_details : SignatureData → List Constant → List ℕ → Head → List (List ℕ)
 head_details signature constants args heads.True = map decimal args
 head_details signature constants args heads.False = map decimal args
@@ -70,7 +70,7 @@ rule_word (rules.Ideal divisor factors) = codes "ideal"
 rule_word rules.Equal = codes "equal"
 rule_word rules.Clash = codes "clash"
 
--- the words behind it, before the premises
+-- the words after it, before the premises
 abbrev pub rule_details : Rule → List (List ℕ)
 rule_details (rules.Hyp i) = decimal i ∷ []
 rule_details rules.Negated = []

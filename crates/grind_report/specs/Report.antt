@@ -67,7 +67,7 @@ term_words (Mul a b) = codes "mul" ∷ decimal a ∷ decimal b ∷ []
 abbrev pub part_words : Part → List (List ℕ)
 part_words part = signed_decimal part.coefficient ∷ decimal part.node ∷ []
 
--- the words of a linear form: its constant, and then each node behind its coefficient
+-- the words of a linear form: its constant, and then each node after its coefficient
 abbrev pub form_words : FormData → List (List ℕ)
 form_words form = signed_decimal form.constant ∷ flat_map part_words form.parts
 
@@ -117,7 +117,7 @@ paired words (factor ∷ factors) (premise ∷ premises) = words factor premise 
 abbrev pub factor_first : ℤ → ℕ → List (List ℕ)
 factor_first factor premise = signed_decimal factor ∷ decimal premise ∷ []
 
--- a polynomial stands behind the premise that it belongs to
+-- a polynomial stands after the premise that it belongs to
 abbrev pub factor_behind : List Term → ℕ → List (List ℕ)
 factor_behind factor premise = decimal premise ∷ poly_words factor
 
@@ -162,12 +162,12 @@ claim_words claims.Absurd = codes "absurd" ∷ []
 abbrev pub branch_words : Branch → List (List ℕ)
 branch_words branch = decimal branch.parent ∷ decimal branch.after ∷ claim_words branch.literal
 
--- the words of a line of a proof: its branch, its rule with the premises, and its claim behind a colon
+-- the words of a line of a proof: its branch, its rule with the premises, and its claim after a colon
 abbrev pub line_words : Line → List (List ℕ)
 line_words line =
     (decimal line.branch ∷ rule_words line.rule) ++ (premise_words line.rule line.premises ++ codes ":" ∷ claim_words line.claim)
 
--- the items' lines, each behind its index, from this index on
+-- the items' lines, each after its index, from this index on
 abbrev pub indexed_lines : {A : Type 0} → (A → List (List ℕ)) → ℕ → List A → List (List (List ℕ))
 indexed_lines words index [] = []
 indexed_lines words index (item ∷ items) = (decimal index ∷ words item) ∷ indexed_lines words (index + 1) items
@@ -196,7 +196,7 @@ end_words count = codes "end" ∷ decimal count ∷ []
 abbrev pub report_page : Report → List (List (List ℕ))
 report_page report = header_words ∷ (flat_map block_page report.blocks ++ end_words (length report.blocks) ∷ [])
 
--- each word behind a space
+-- each word after a space
 abbrev pub spaced : List (List ℕ) → List ℕ
 spaced words = flat_map (λ (word : List ℕ). 32 ∷ word) words
 

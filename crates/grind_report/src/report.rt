@@ -30,7 +30,7 @@ pub enum Outcome {
 ///
 /// # Errors
 ///
-/// Want of memory.
+/// Out of memory.
 pub fn header(alloc: Global) -> Result<List<u8>, Memory>
     ensures { IfOk result (λ bytes. bytes ≡ header_bytes) }
 {
@@ -43,7 +43,7 @@ pub fn header(alloc: Global) -> Result<List<u8>, Memory>
 ///
 /// # Errors
 ///
-/// Want of memory.
+/// Out of memory.
 pub fn end_line(alloc: Global, count: u32) -> Result<List<u8>, Memory>
     ensures { IfOk result (λ bytes. bytes ≡ end_bytes count) }
 {
@@ -58,7 +58,7 @@ pub fn end_line(alloc: Global, count: u32) -> Result<List<u8>, Memory>
 ///
 /// # Errors
 ///
-/// Want of memory.
+/// Out of memory.
 pub fn render_block(
     alloc: Global,
     signature: &Signature,

@@ -23,7 +23,7 @@ use std::collections::BTreeMap;
 ///
 /// # Errors
 ///
-/// `Memory` where memory was wanted and there was none.
+/// `Memory` if out of memory.
 pub fn post_line(
     alloc: Global,
     basis: &Basis,
@@ -74,7 +74,7 @@ fn element_premises(alloc: Global, basis: &Basis, list: &List<Poly>) -> Result<O
 ///
 /// # Errors
 ///
-/// `Memory` where memory was wanted and there was none.
+/// `Memory` if out of memory.
 pub fn pair_line(
     alloc: Global,
     basis: &Basis,
@@ -121,7 +121,7 @@ pub fn pair_line(
 ///
 /// # Errors
 ///
-/// `Memory` where memory was wanted and there was none.
+/// `Memory` if out of memory.
 pub fn difference_line(
     alloc: Global,
     basis: &Basis,

@@ -12,7 +12,7 @@ use std::alloc::Global;
 ///
 /// # Errors
 ///
-/// `Memory` where memory was wanted and there was none.
+/// `Memory` if out of memory.
 pub fn normal_form(alloc: Global, poly: &Poly, basis: &Basis) -> Result<Option<Reduced>, Memory>
     requires { IsBasis basis.now }
     ensures { IfOk result (λ answer. MatchOption answer (Outgrows basis.now poly.now) (λ normal. HasNormalForm basis.now poly.now normal)) }

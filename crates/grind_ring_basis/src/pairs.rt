@@ -14,7 +14,7 @@ use std::alloc::Global;
 ///
 /// # Errors
 ///
-/// `Memory` where memory was wanted and there was none.
+/// `Memory` if out of memory.
 pub fn s_polynomial(alloc: Global, a: &Poly, b: &Poly) -> Result<Cancelled, Memory>
     requires first { a.now ≢ [] }
     requires second { b.now ≢ [] }

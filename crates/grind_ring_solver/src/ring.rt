@@ -58,7 +58,7 @@ impl Ring {
     ///
     /// # Errors
     ///
-    /// `Memory` where memory was wanted and there was none; what is known then is not said.
+    /// `Memory` if out of memory; what is known then is not said.
     pub fn take(&mut self, alloc: Global, post: u32, claim: &Claim) -> Result<(), Memory>
         ensures { OnOk result (IsTaken self.old post claim.now self.new) }
     {
@@ -70,7 +70,7 @@ impl Ring {
     ///
     /// # Errors
     ///
-    /// `Memory` where memory was wanted and there was none; what is known then is not said.
+    /// `Memory` if out of memory; what is known then is not said.
     pub fn step(
         &mut self,
         alloc: Global,
@@ -88,7 +88,7 @@ impl Ring {
     ///
     /// # Errors
     ///
-    /// `Memory` where memory was wanted and there was none.
+    /// `Memory` if out of memory.
     pub fn copy(&self, alloc: Global) -> Result<Ring, Memory>
         ensures { IfOk result (λ ring. ring ≡ self.now) }
     {

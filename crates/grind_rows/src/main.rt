@@ -27,7 +27,7 @@ enum Trouble {
     Malformed { line: usize },
     /// The output could not be written.
     Unwritten,
-    /// Memory was wanted, and there was none.
+    /// Out of memory.
     Memory,
 }
 
@@ -102,7 +102,7 @@ fn try_case<R: Threads + Sync + Files + AllocGlobal, K: Sink>(
     }
 }
 
-/// Follows the lines of a case, and puts what comes of them behind what was said.
+/// Follows the lines of a case, and appends what comes of them to what was said.
 fn follow_all<R: Threads + Sync>(
     rt: &R,
     alloc: Global,

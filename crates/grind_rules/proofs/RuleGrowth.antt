@@ -1,4 +1,4 @@
--- What a rule allows it allows where terms are put behind the others, too.
+-- What a rule allows it allows where terms are appended to the others, too.
 use Rattle.std.proofs.Common.{ℕ, Option, ◌++◌, List, inl, inr, refl, ℤ, pos}
 use Rattle.std.specs.Prelude.{slice_get}
 use Rattle.grind_term_graph.specs.declared.node.Node.{Node}

@@ -8,7 +8,7 @@ use Rattle.grind_claims.specs.declared.proof.Rule.{Rule}
 use Rattle.grind_claims.specs.declared.proof.Rule.TheVariants as rules
 use Rattle.grind_rules.specs.Rules.{RuleAllows}
 
--- what a rule allows it allows where terms are put behind the others, too
+-- what a rule allows it allows where terms are appended to the others, too
 abbrev pub AllowedStays : Type 0
 AllowedStays =
     (lemmas : Lemmas) (goal : GoalData) (nodes more : List Node) (literal : Option Claim) (rule : Rule)

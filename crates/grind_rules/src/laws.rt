@@ -4,7 +4,7 @@ ghost use Rattle.grind_rules.specs.Laws.{AllowedStays, PremisesAreCounted};
 use grind_differences::{differences_stay, poly_differences_stay};
 use grind_truth_tables::laws::tables_stay;
 
-/// What a rule allows it allows where terms are put behind the others, too.
+/// What a rule allows it allows where terms are appended to the others, too.
 pub fn allowed_stays()
     ensures { AllowedStays }
 {

@@ -21,7 +21,7 @@ use std::alloc::Global;
 /// Whether the rule allows the claim, which is well formed over the terms, from premises that claim this.
 ///
 /// # Errors
-/// `Memory` where memory was wanted and there was none. Only the rule `table` and the rules over forms and polynomials take memory.
+/// `Memory` if out of memory. Only the rule `table` and the rules over forms and polynomials take memory.
 pub fn rule_allows(
     alloc: Global,
     setting: &Setting,

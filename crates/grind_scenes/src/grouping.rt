@@ -23,7 +23,7 @@ fn alone(alloc: Global, count: u32) -> Result<Classes, Memory>
 ///
 /// # Errors
 ///
-/// `Memory` where memory was wanted and there was none.
+/// `Memory` if out of memory.
 pub fn all_alone(alloc: Global, terms: &TermTable) -> Result<Classes, Memory>
     ensures alone { IfOk result (λ classes. AreAlone classes.lists (length terms.now.nodes)) }
     ensures classes { IfOk result (λ classes. AreClassesOf terms.now.nodes classes.lists) }
@@ -51,7 +51,7 @@ fn are_of_one_sort(terms: &TermTable, a: NodeId, b: NodeId) -> bool
 ///
 /// # Errors
 ///
-/// `Memory` where memory was wanted and there was none.
+/// `Memory` if out of memory.
 pub fn join(
     alloc: Global,
     terms: &TermTable,

@@ -10,7 +10,7 @@ use std::alloc::Global;
 ///
 /// # Errors
 ///
-/// `Memory` where memory was wanted and there was none.
+/// `Memory` if out of memory.
 pub fn marks_of(alloc: Global, count: u32, listed: &[u32]) -> Result<List<bool>, Memory>
     ensures { IfOk result (λ marks. AreMarks (λ n. list_any (λ k. nat_eq k n) listed.now) count marks) }
 {
@@ -25,7 +25,7 @@ pub fn marks_of(alloc: Global, count: u32, listed: &[u32]) -> Result<List<bool>,
 ///
 /// # Errors
 ///
-/// `Memory` where memory was wanted and there was none.
+/// `Memory` if out of memory.
 pub fn marks_but(alloc: Global, count: u32, listed: &[u32]) -> Result<List<bool>, Memory>
     ensures { IfOk result (λ marks. AreMarks (λ n. not (list_any (λ k. nat_eq k n) listed.now)) count marks) }
 {
@@ -40,7 +40,7 @@ pub fn marks_but(alloc: Global, count: u32, listed: &[u32]) -> Result<List<bool>
 ///
 /// # Errors
 ///
-/// `Memory` where memory was wanted and there was none.
+/// `Memory` if out of memory.
 pub fn zeros(alloc: Global, count: u32) -> Result<List<u32>, Memory>
     ensures value { IfOk result (λ generations. generations ≡ replicate count 0) }
     ensures long { IfOk result (λ generations. length generations ≡ count) }

@@ -14,7 +14,7 @@ use std::alloc::Global;
 ///
 /// # Errors
 ///
-/// `Memory` where memory was wanted and there was none.
+/// `Memory` if out of memory.
 pub fn first_matches(
     alloc: Global,
     terms: &TermTable,

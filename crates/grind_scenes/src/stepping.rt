@@ -62,7 +62,7 @@ pub fn are_marked_formulas(known: &Known) -> bool
 ///
 /// # Errors
 ///
-/// `Memory` where memory was wanted and there was none.
+/// `Memory` if out of memory.
 pub fn next_step(alloc: Global, known: &Known, classes: &Classes) -> Result<TruthStep, Memory>
     requires classes { AreClassesOf known.now.terms.nodes classes.now.lists }
     requires marked { AreMarkedFormulas known.now }

@@ -1,4 +1,4 @@
--- Where a node stands among the nodes of a table and fresh ones behind them.
+-- Where a node stands among the nodes of a table and fresh ones after them.
 use Rattle.std.proofs.Common.{◌+◌, ◌≡◌, ℕ, suc, ◌<◌, ◌≤◌, arith, Bool, true, false, true≢false, inl, inr, List, [], ◌∷◌, ◌++◌, Some, length, refl, sym, ap, ◌∙◌, append_assoc}
 use Rattle.std.specs.Prelude.{slice_get, Contains}
 use Rattle.std.specs.List.{list_any, position_or_len}
@@ -20,7 +20,7 @@ module _ {X : Type 0} (p : X → Bool) where
         | inr e ↦ let rest : list_any p xs ≡ true = rw e at found in rw e (ap (λ (n : ℕ). 1 + n) (place_in_front xs ys rest))
       ]
 
-  -- what does not stand there is found behind it
+  -- what does not stand there is found after it
   pub place_behind : (xs ys : List X) → list_any p xs ≡ false
       → position_or_len p (xs ++ ys) ≡ length xs + position_or_len p ys
   place_behind [] ys none = omega arith
@@ -67,7 +67,7 @@ placed_in_front nodes fresh node id is stands =
     pair_of (nodes ++ fresh) (placed (nodes ++ fresh) node).0 id (placed (nodes ++ fresh) node).1
     (rw found refl) (id_is ∙ sym (place_in_front p nodes fresh here))
 
--- another that stands among those behind has its place there
+-- another that stands among those after has its place there
 pub placed_behind : (nodes fresh : List Node) (node : Node) (number : ℕ) → ¬ Contains nodes node
     → position_or_len (is_same_node node) fresh < length fresh
     → number ≡ length nodes + position_or_len (is_same_node node) fresh

@@ -202,7 +202,7 @@ SuitsEach-Apply nodes substitution head sort args scheme items e f h =
     let formed = (IsScheme-Apply h.0 head sort args).0 (subst (IsScheme h.0) e h.2) in
     (h.0, h.1, subst (All (IsScheme h.0)) (sym f) formed.1)
 
--- and its node fits behind them
+-- and its node fits after them
 pub fits_behind : (nodes after : List Node) (substitution ids slice : List ℕ) (head : Head) (sort : ℕ)
     (args : Vec Scheme Global) (scheme : Scheme) (items : List Scheme) → scheme ≡ Apply head sort args
     → items ≡ args.items → AreMade nodes substitution items after ids → slice ≡ ids → Suits nodes substitution scheme
@@ -272,7 +272,7 @@ pub over_when_full : (nodes : List Node) (node : Node) (limit : ℕ) → ¬ Cont
     → limit < length (placed nodes node).0
 over_when_full nodes node limit new full = rw (placed-absent nodes node new) (omega (arith, length-append nodes (node ∷ [])))
 
--- the rest of the schemes goes behind what is done
+-- the rest of the schemes goes after what is done
 unfoldable pub IsLeft : List Node → List ℕ → List Scheme → List Node → List ℕ → List Scheme → Type 0
 IsLeft nodes substitution all now ids rest =
     let done = interned_list now substitution rest in
@@ -325,7 +325,7 @@ drop_at all k item below is =
     ∙ ap (λ (x : Scheme). x ∷ drop (suc k) all) (sym is)
     ∙ ap (λ (n : ℕ). item ∷ drop n all) next
 
--- behind the last nothing is left
+-- after the last nothing is left
 pub drop_all : (all : List Scheme) (k : ℕ) → length all ≤ k → drop k all ≡ []
 drop_all [] k past = drop-nil k
 drop_all (first ∷ rest) zero past = absurd (omega arith)

@@ -87,7 +87,7 @@ table-placed nodes node table shaped =
           subst (IsTable []) (sym (placed-absent nodes node new)) (IsTable-push [] nodes node table shaped new)
     ]
 
--- the node of a head fits behind those of its arguments
+-- the node of a head fits after those of its arguments
 fits_behind_row : (substitution vars : List ℕ) (head : Head) (sort : ℕ) (n : _) (row : Row_of-Scheme n) (nodes : List Node)
     → IsSubstitution nodes vars substitution → IsShaped head sort (row_sorts vars row) → AreSchemes vars row
     → WellShaped (interned_row nodes substitution row).0 (node_of head sort (interned_row nodes substitution row).1)

@@ -24,7 +24,7 @@ abbrev pub AreInstanceNodesPast : ℕ → List Node → List ℕ → Scheme → 
 AreInstanceNodesPast count nodes subst scheme =
     (id : ℕ) → count ≤ id → id < length nodes → IsInstanceNode nodes subst scheme id
 
--- the absent nodes of the instance were put behind the others, arguments first, and nothing else; the node of this number
+-- the absent nodes of the instance were appended to the others, arguments first, and nothing else; the node of this number
 -- stands for the instance
 pub record AddsInstance (before : List Node) (subst : List ℕ) (scheme : Scheme) (after : List Node) (id : ℕ) : Type 0 where
   pub grows : BeginsWith before after

@@ -1,4 +1,4 @@
--- What schemes become among nodes, one behind the other.
+-- What schemes become among nodes, one after the other.
 use Rattle.std.specs.Prelude.{ℕ, List, [], ◌∷◌, All}
 use Rattle.grind_term_graph.specs.declared.head.Head.{Head}
 use Rattle.grind_term_graph.specs.Placed.{placed}

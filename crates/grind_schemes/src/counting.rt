@@ -28,7 +28,7 @@ pub fn missing(
     Ok(fresh.len() as u32)
 }
 
-// The node of a scheme in the table or among the fresh nodes, which have their numbers behind those of the table.
+// The node of a scheme in the table or among the fresh nodes, which have their numbers after those of the table.
 #[cycle(finding)]
 fn find_scheme(
     alloc: Global,
@@ -52,7 +52,7 @@ fn find_scheme(
     }
 }
 
-// The nodes of several schemes, one behind the other.
+// The nodes of several schemes, one after the other.
 #[cycle(finding)]
 fn find_args(
     alloc: Global,

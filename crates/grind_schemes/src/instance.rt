@@ -74,7 +74,7 @@ pub fn intern_scheme(
     }
 }
 
-// The nodes of several schemes, one behind the other.
+// The nodes of several schemes, one after the other.
 #[cycle(interning)]
 fn intern_args(
     alloc: Global,

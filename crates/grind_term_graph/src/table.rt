@@ -19,7 +19,7 @@ use std::marker::Model;
 pub enum TermRefusal {
     /// The node is absent, and the table holds as many nodes as its limit allows.
     Full,
-    /// Memory was wanted, and there was none.
+    /// Out of memory.
     Memory,
 }
 

@@ -121,7 +121,7 @@ module _ (nodes : List Node) (ids_for : List ℕ) where
     each_lacks k item rest below is e left =
         let h = rw (drop_at all k item below is, e) at left in (λ f. absurd (true≢false (sym f)), λ w. absurd (h.0 w))
 
-    -- behind the last scheme no node is left
+    -- after the last scheme no node is left
     pub each_ends : (b : Bool) (k : ℕ) (rest : List ℕ) → length all ≤ k → (IsTrue b ↔ (rest ≡ [])) → IsLeftOf k rest → IsTrue b ↔ W
     each_ends b k rest past none left =
         let h = rw (drop_all all k past) at left in (

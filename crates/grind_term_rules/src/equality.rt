@@ -17,7 +17,7 @@ pub fn is_refl(premises: &[&Claim], claim: &Claim) -> bool
     premises.is_empty() && left == right
 }
 
-/// sym: an equality turned round.
+/// sym: from a = b follows b = a.
 pub fn is_sym(premises: &[&Claim], claim: &Claim) -> bool
     ensures { IsTrue result ↔ IsSym (claims_of premises.now) claim.now }
 {

@@ -48,7 +48,7 @@ each-grows (a ∷ schemes) nodes =
     (interned-grows [] a nodes) (each-grows schemes (interned nodes [] a).0)
 
 module _ (gives : List ℕ → Given → Type 0) where
-  -- some formulas are put there, and these are left: what is put of them behind completes what is put of all
+  -- some formulas are put there, and these are left: what is put of them after completes what is put of all
   pub record IsPutting (start : List Node) (all rest : List Term) (nodes : List Node) (ids : List ℕ) : Type 0 where
     pub onward : (schemes : List Scheme) → StandForEach gives rest schemes
         → (whole : List Scheme) × StandForEach gives all whole

@@ -17,7 +17,7 @@ encode-bounds c =
     let e = length-encode c in
     (omega arith, omega arith)
 
--- what stands behind a character
+-- what stands after a character
 pub drop-character : (text rest : List ℕ) (c : ℕ) → text ≡ encode_utf8 c ++ rest → drop (len_utf8 c) text ≡ rest
 drop-character text rest c e =
     ap (λ l. drop (len_utf8 c) l) e ∙ ap (λ n. drop n (encode_utf8 c ++ rest)) (sym (length-encode c)) ∙ drop-append_seam (encode_utf8 c) rest
@@ -34,7 +34,7 @@ no_character-nil text empty c rest good e =
     let size : length text ≡ length (encode_utf8 c) + length rest = ap length e ∙ length-append (encode_utf8 c) rest in
     omega arith
 
--- the run of a text goes on with that of what stands behind a character
+-- the run of a text goes on with that of what stands after a character
 pub runs_more : (P : ℕ → Type 0) (text rest : List ℕ) (c n : ℕ) → text ≡ encode_utf8 c ++ rest → IsScalar c → P c → Runs P rest n → Runs P text (len_utf8 c + n)
 runs_more P text rest c n e good holds r = record {
   piece = encode_utf8 c ++ r.piece;

@@ -18,7 +18,7 @@ digits_value_after-grows n (d ∷ ds) =
     let more = digits_value_after-grows (n * 10 + digit_value d) ds in
     omega arith
 
--- what stands behind a run
+-- what stands after a run
 pub runs-rest : (P : ℕ → Type 0) (text : List ℕ) (n : ℕ) → (r : Runs P text n) → drop n text ≡ r.rest
 runs-rest P text n r = ap (λ k. drop k text) r.size ∙ ap (λ l. drop (length r.piece) l) r.splits ∙ drop-append_seam r.piece r.rest
 
@@ -38,7 +38,7 @@ first_byte b bs after c lf e =
     let ten : b ∷ bs ≡ 10 ∷ after = e ∙ ap (λ k. encode_utf8 k ++ after) lf ∙ ap (λ l. l ++ after) (encode_ascii 10 (omega arith)) in
     cc
 
--- behind a run of a comment that does not end its line stands a bad byte
+-- after a run of a comment that does not end its line stands a bad byte
 pub unended : (rest : List ℕ) → StopsChars IsCommentChar rest → ¬ EndsLine rest → (0 < length rest) × StartsWithNoChar rest
 unended [] stops ends = absurd (ends tt)
 unended (b ∷ bs) stops ends = (omega arith, λ c after good e. stops c good (λ lf. ends (first_byte b bs after c lf e)) (after, e))
@@ -57,7 +57,7 @@ comment_fault body n r ends =
       place = omega (arith, r.size);
     }
 
--- the name at the front of a text, of which the first character and the run behind it are known
+-- the name at the front of a text, of which the first character and the run after it are known
 pub record Named (text : List ℕ) (n : ℕ) : Type 0 where
   pub piece : List ℕ
   pub rest : List ℕ

@@ -31,7 +31,7 @@ front-some text f b = let some = front_not_empty f.kind b.piece b.rest b.front i
 pub front-within : (text : List ℕ) (f : Front) → BeginsWithFront text f → f.len ≤ length text
 front-within text f b = omega (arith, b.size, ap length b.splits, length-append b.piece b.rest)
 
--- what stands behind it
+-- what stands after it
 front-rest : (text : List ℕ) (f : Front) → (b : BeginsWithFront text f) → drop f.len text ≡ b.rest
 front-rest text f b = ap (λ n. drop n text) b.size ∙ ap (λ l. drop (length b.piece) l) b.splits ∙ drop-append_seam b.piece b.rest
 
@@ -69,7 +69,7 @@ spelled Word piece rest g = g.0
 spelled (Number n) piece rest g = g.0
 spelled (Symbol s) piece rest g = g.0
 
--- the tokens of what stands behind some bytes are pieces of the whole
+-- the tokens of what stands after some bytes are pieces of the whole
 pieces_of : {at : ℕ} {text : List ℕ} {ts : List Token} (before whole : List ℕ) → whole ≡ before ++ text → at ≡ length before → TokensFrom at text ts → AllByRecursion (IsPiece whole) ts
 pieces_of before whole w a at_end = tt
 pieces_of before whole w a (gap p r e g t) =

@@ -126,7 +126,7 @@ not_nil kind piece rest e g =
     let none = ap length e ∙ length-append piece rest in
     absurd (omega arith)
 
--- behind a piece at the front stand the tokens of the rest
+-- after a piece at the front stand the tokens of the rest
 rest_of : {at : ℕ} {text : List ℕ} {ts : List Token} (kind : Option TokenKind) (piece rest : List ℕ) → TokensFrom at text ts → text ≡ piece ++ rest → IsFront kind piece rest → (us : List Token) × TokensFrom (at + length piece) rest us × (ts ≡ tokens_of kind at (at + length piece) ++ us)
 rest_of kind piece rest at_end e g = absurd (not_nil kind piece rest e g)
 rest_of {at} {text} {ts} kind piece rest (gap p r e' g' t) e g =
@@ -136,7 +136,7 @@ rest_of {at} {text} kind piece rest (token {ts} k p r e' g' t) e g =
     let o = one_front text (Some k) kind p r piece rest e' e g' g in
     (ts, moved at p piece r rest ts o.1 o.2 t, ap (λ q. tokens_of (Some k) at (at + length q) ++ ts) o.1 ∙ ap (λ j. tokens_of j at (at + length piece) ++ ts) o.0)
 
--- behind a piece at the front stands the fault of the rest
+-- after a piece at the front stands the fault of the rest
 break_of : {at : ℕ} {text : List ℕ} {x : LexRefusal} (kind : Option TokenKind) (piece rest : List ℕ) → BreaksFrom at text x → text ≡ piece ++ rest → IsFront kind piece rest → BreaksFrom (at + length piece) rest x
 break_of {at} {text} {x} kind piece rest (here f) e g = absurd (no_fault at text kind piece rest x e g f)
 break_of {at} {text} {x} kind piece rest (past_gap p r e' g' t) e g =

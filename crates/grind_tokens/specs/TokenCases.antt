@@ -35,7 +35,7 @@ stops_ascii P b bs low other c good holds h =
 in_no_name : (b : ℕ) → b < 128 → is_xid_continue b ≡ false → ¬ IsNameChar b
 in_no_name b low e h = both_ways (is_xid_continue b) e h
 
--- behind `a` no symbol is longer than a dot
+-- after `a` no symbol is longer than a dot
 dot_longest : IsLongest Dot (codes ".")
 dot_longest Dot b = omega arith
 dot_longest Comma b = omega arith

@@ -164,7 +164,7 @@ pub record IsStray (text : List ℕ) : Type 0 where
   pub no_number : Stops IsDigit text
   pub no_symbol : (s : Sym) → ¬ Begins text (spelling s)
 
--- a comment begins, and behind that many bytes, before its line ends, stands a byte with which no character begins
+-- a comment begins, and after that many bytes, before its line ends, stands a byte with which no character begins
 pub record IsBrokenComment (text : List ℕ) (n : ℕ) : Type 0 where
   pub body : List ℕ
   pub rest : List ℕ
@@ -199,7 +199,7 @@ IsFault at text (NumberTooLarge offset) = (offset ≡ at) × IsLargeNumber text
 IsFault at text (NameTooLong offset) = (offset ≡ at) × IsLongName text
 IsFault at text Memory = ⊥
 
--- the first fault of a text that begins at an offset of the file: here, or behind a token or what stands between tokens
+-- the first fault of a text that begins at an offset of the file: here, or after a token or what stands between tokens
 pub data BreaksFrom : ℕ → List ℕ → LexRefusal → Type 0 where
   here : {at : ℕ} {text : List ℕ} {e : LexRefusal} → IsFault at text e → BreaksFrom at text e
   past_gap : {at : ℕ} {text : List ℕ} {e : LexRefusal} (piece rest : List ℕ)

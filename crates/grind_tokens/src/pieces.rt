@@ -44,7 +44,7 @@ fn ends_line(text: &[u8]) -> bool
     matches!(text, [] | [b'\n', ..])
 }
 
-// The comment of which the bytes behind its two minus signs are given.
+// The comment of which the bytes after its two minus signs are given.
 fn comment_at(body: &[u8], at: u32) -> Result<Front, LexRefusal>
     requires { at + (2 + length body.now) < 2 ^ 32 }
     ensures ok { IfOk result (BeginsWithFront (dashes ++ body.now)) }
@@ -81,7 +81,7 @@ fn word_at(text: &[u8], first: char, at: u32) -> Result<Front, LexRefusal>
     })
 }
 
-// A number with one more digit behind it, unless that is too large.
+// A number with one more digit after it, unless that is too large.
 fn with_digit(value: u128, digit: u8) -> Option<u128>
     requires { IsDigit digit }
     ensures some { IfSome result (λ next. (next ≡ value * 10 + digit_value digit) × (next < 2 ^ 127)) }

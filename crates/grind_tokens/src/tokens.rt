@@ -99,7 +99,7 @@ pub enum LexRefusal {
         /// The offset of its first byte.
         offset: u32,
     },
-    /// Memory was wanted, and there was none.
+    /// Out of memory.
     Memory,
 }
 

@@ -23,7 +23,7 @@ use std::alloc::Global;
 ///
 /// # Errors
 ///
-/// `Memory` where memory was wanted and there was none.
+/// `Memory` if out of memory.
 pub fn truth_step(alloc: Global, known: &Known, classes: &Classes) -> Result<TruthStep, Memory>
     requires { Fits known.now classes.now.lists }
     ensures step { IfOk result (λ step. IsStep known.now classes.now.lists step) }

@@ -367,7 +367,7 @@ naming_ends claim premises k keys past h n names = elim (h n names) [
 
 -- ---- truths of the nodes, from the last on
 
--- in a list that falls, what is below a node stands behind it
+-- in a list that falls, what is below a node stands after it
 behind_below : (order : List ℕ) (i m d : ℕ) → Falls order → i < length order → Lists order m → m < slice_index_or order i d →
     Lists (drop (suc i) order) m
 unfolding Falls Lists
@@ -407,7 +407,7 @@ equal_at Less k n is e = let low = ranked k n Less is in absurd (omega arith)
 equal_at Equal k n is e = refl
 equal_at Greater k n is e = let low = ranked k n Greater is in absurd (omega arith)
 
--- what is not the first of a list stands behind it
+-- what is not the first of a list stands after it
 not_first : (k n : ℕ) (tail : List ℕ) (test : Bool) → test ≡ false → (n ≡ k → test ≡ true) → Lists (k ∷ tail) n → Lists tail n
 unfolding Lists
 not_first k n tail test other first (inl e) = absurd (true≢false (sym (first e) ∙ other))

@@ -1,4 +1,4 @@
--- What follows by truth tables still does where terms are put behind the others.
+-- What follows by truth tables still does where terms are appended to the others.
 use Rattle.std.proofs.Common.{◌≡◌, ℕ, Bool, true, not, Option, ◌++◌, List, [], ◌∷◌, Some, None, IsSome, suc, zero, length, refl, sym, ◌∙◌}
 use Rattle.std.specs.Option.{option_map}
 use Rattle.std.proofs.lemmas.List.Elements.{All-weaker}
@@ -16,7 +16,7 @@ known_stays [] more n h = absurd cc
 known_stays (x ∷ known) more zero h = refl
 known_stays (x ∷ known) more (suc n) h = known_stays known more n h
 
--- a truth that is known is that of the nodes behind too
+-- a truth that is known is that of the nodes after too
 behind_stays : (free : List ℕ) (truths : List Bool) (known : List (Option Bool)) (nodes : List Node) (n : ℕ) →
     IsSome (truth_at known n) → truth_at (truths_of free truths known nodes) n ≡ truth_at known n
 behind_stays free truths known [] n h = refl
@@ -25,7 +25,7 @@ behind_stays free truths known (node ∷ nodes) n h =
     let here = known_stays known last n h in
     behind_stays free truths (known ++ last) nodes n (rw here h) ∙ here
 
--- the truths of the nodes and of those behind
+-- the truths of the nodes and of those after
 truths_go_on : (free : List ℕ) (truths : List Bool) (known : List (Option Bool)) (nodes more : List Node) →
     truths_of free truths known (nodes ++ more) ≡ truths_of free truths (truths_of free truths known nodes) more
 truths_go_on free truths known [] more = refl

@@ -1,4 +1,4 @@
--- The truths of nodes, built one behind the other.
+-- The truths of nodes, built one after the other.
 use Rattle.std.proofs.Common.{◌≡◌, ℕ, zero, suc, ◌+◌, ◌<◌, ◌≤◌, Bool, true, false, true≢false, List, [], ◌∷◌, ◌++◌, All, Option, Some, None, IsSome, length, map, take, slice_get, refl, sym, ap, subst, ◌∙◌, arith, add-one, length-append, inl, inr}
 use Rattle.std.proofs.lemmas.List.{length-take-le}
 use Rattle.std.proofs.lemmas.List.Elements.{All-head, All-tail}
@@ -69,7 +69,7 @@ first_truths_agree free truths nodes known bound e n h =
     ap (λ (list : List (Option Bool)). truth_at list n) e
     ∙ ap (option_and_then (λ (truth : Option Bool). truth)) (front_decides free truths [] nodes bound n (omega arith))
 
--- the truth of the next node goes behind those of the first nodes
+-- the truth of the next node goes after those of the first nodes
 pub truths_next : (free : List ℕ) (truths : List Bool) (nodes : List Node) (known : List (Option Bool)) (n : ℕ) (truth : Option Bool) →
     n < length nodes → known ≡ truths_of free truths [] (take n nodes) →
     Some truth ≡ option_map (node_truth free truths known n) (slice_get nodes n) →
@@ -95,7 +95,7 @@ truths_next free truths nodes known n truth within e h =
       | inr past ↦ let low = past.0 in absurd (omega arith)
     ]
 
--- an item behind the others is the last
+-- an item after the others is the last
 last_item : {X : Type 0} (xs : List X) (x : X) (n : ℕ) → n ≡ length xs → slice_get (xs ++ x ∷ []) n ≡ Some x
 last_item [] x zero e = refl
 last_item [] x (suc n) e = absurd (omega arith)

@@ -69,7 +69,7 @@ abbrev pub node_truth : List ℕ → List Bool → List (Option Bool) → ℕ �
 node_truth free truths known n node =
     option_or (free_truth free truths n) (joined_truth node.head (map (truth_at known) node.args))
 
--- the truths of nodes, behind those of the nodes before them
+-- the truths of nodes, after those of the nodes before them
 abbrev pub truths_of : List ℕ → List Bool → List (Option Bool) → List Node → List (Option Bool)
 truths_of free truths known [] = known
 truths_of free truths known (node ∷ nodes) =

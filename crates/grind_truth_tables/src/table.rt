@@ -18,7 +18,7 @@ use std::alloc::Global;
 /// Whether the rule `table` allows the claim, which is well formed, from these free nodes.
 ///
 /// # Errors
-/// `Memory` where memory was wanted and there was none.
+/// `Memory` if out of memory.
 pub fn is_table(
     alloc: Global,
     terms: &TermTable,
@@ -116,7 +116,7 @@ fn follows_always(
     Ok(if_false)
 }
 
-/// The truths, and one more behind them.
+/// The truths, and one more after them.
 fn with_one_more(alloc: Global, truths: &[bool], truth: bool) -> Result<List<bool>, Memory>
     ensures { IfOk result (λ longer. longer ≡ truths.now ++ truth ∷ []) }
 {

@@ -13,7 +13,7 @@ use std::collections::BTreeMap;
 /// The truths of nodes, by their numbers.
 pub type Truths = BTreeMap<u32, Option<bool>>;
 
-/// The truths of these nodes under an assignment. The last of them comes first, since each rests on those behind it.
+/// The truths of these nodes under an assignment. The last of them comes first, since each rests on those after it.
 ///
 /// # Errors
 /// `Memory` where there is none.

@@ -31,7 +31,7 @@ use Rattle.grind_value_tables.proofs.Meanings.{IsSomeAnd-item, claim_is, formula
 use Rattle.grind_value_tables.proofs.Ancestors.{assumes_child, assumes_root}
 
 module _ {X : Type 0} where
-  -- what holds of each item holds of each from behind
+  -- what holds of each item holds of each from the end on
   All-reverse : (P : X → Type 0) (xs : List X) → All P xs → All P (reverse xs)
   All-reverse P xs all k d below =
       let within : k < length xs = omega (arith, length-reverse xs) in

@@ -53,7 +53,7 @@ consed x y xs ys p q = cc
 unconsed : (x y : ℤ) (xs ys : List ℤ) → x ∷ xs ≡ y ∷ ys → xs ≡ ys
 unconsed x y xs ys e = cc
 
--- two lists of numbers with the same values, each behind a first number of the same value
+-- two lists of numbers with the same values, each after a first number of the same value
 module _ (value : ℕ → ℤ) (limit : ℕ) where
   pub same_behind : (a b : ℕ) (more further rest others : List ℕ) (P : Type 0) → rest ≡ a ∷ more → others ≡ b ∷ further
       → value a ≡ value b → All (λ n. n < limit) rest → All (λ n. n < limit) others

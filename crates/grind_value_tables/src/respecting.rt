@@ -9,7 +9,7 @@ use grind_term_graph::TermTable;
 
 /// Whether the values respect the terms: there is one for each node, connectives, equality, order and arithmetic have
 /// their meaning, a formula has 0 or 1, and a function gives one value at arguments of the same values. Nodes are
-/// judged from 0 on, and none behind the first that breaks this.
+/// judged from 0 on, and none after the first that breaks this.
 ///
 /// # Errors
 /// `Overflow` exactly where the nodes before some node are in order, and that node asks for a sum, a product or a

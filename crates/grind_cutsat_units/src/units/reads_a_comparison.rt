@@ -17,7 +17,7 @@ use std::alloc::Global;
 ///
 /// # Errors
 ///
-/// `Memory` where memory was wanted and there was none.
+/// `Memory` if out of memory.
 pub fn reads_a_comparison(alloc: Global, view: &View) -> Result<Option<List<Draft>>, Memory>
     ensures { IfOk result (λ found. IsFound view.now.facts.now view.now.next (λ posts. (post : ℕ)
         × ReadsComparison (given view.now.facts.now view.now.terms.now.nodes view.now.classes.now.lists) post posts) found) }

@@ -21,7 +21,7 @@ use std::alloc::Global;
 ///
 /// # Errors
 ///
-/// `Memory` where memory was wanted and there was none.
+/// `Memory` if out of memory.
 pub fn strengthens_a_bound(alloc: Global, view: &View) -> Result<Option<List<Draft>>, Memory>
     ensures { IfOk result (λ found. IsFound view.now.facts.now view.now.next
         (Strengthens (given view.now.facts.now view.now.terms.now.nodes view.now.classes.now.lists)) found) }

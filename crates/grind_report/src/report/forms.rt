@@ -7,7 +7,7 @@ use grind_linear_forms::{Form, Part};
 use grind_outside::{List, Memory};
 use grind_polynomials::{Poly, Term};
 
-/// A node behind its coefficient.
+/// A node after its coefficient.
 fn put_part(out: &mut List<u8>, part: &Part) -> Result<(), Memory>
     ensures text { OnOk result (out.new ≡ out.old ++ spaced (part_words part.now)) }
     ensures fits { OnOk result (PartFits part.now) }
@@ -17,7 +17,7 @@ fn put_part(out: &mut List<u8>, part: &Part) -> Result<(), Memory>
     Ok(())
 }
 
-/// Nodes, each behind its coefficient.
+/// Nodes, each after its coefficient.
 fn put_parts(out: &mut List<u8>, parts: &[Part]) -> Result<(), Memory>
     ensures text { OnOk result (out.new ≡ out.old ++ spaced (flat_map part_words parts.now)) }
     ensures fits { OnOk result (All PartFits parts.now) }
@@ -41,7 +41,7 @@ pub fn put_form(out: &mut List<u8>, form: &Form) -> Result<(), Memory>
     Ok(())
 }
 
-/// A monomial behind its coefficient and its degree.
+/// A monomial after its coefficient and its degree.
 fn put_monomial(out: &mut List<u8>, term: &Term) -> Result<(), Memory>
     ensures text { OnOk result (out.new ≡ out.old ++ spaced (monomial_words term.now)) }
     ensures fits { OnOk result (MonomialFits term.now) }
@@ -52,7 +52,7 @@ fn put_monomial(out: &mut List<u8>, term: &Term) -> Result<(), Memory>
     Ok(())
 }
 
-/// Monomials, each behind its coefficient and its degree.
+/// Monomials, each after its coefficient and its degree.
 fn put_monomials(out: &mut List<u8>, terms: &[Term]) -> Result<(), Memory>
     ensures text { OnOk result (out.new ≡ out.old ++ spaced (flat_map monomial_words terms.now)) }
     ensures fits { OnOk result (All MonomialFits terms.now) }
@@ -76,7 +76,7 @@ pub fn put_poly(out: &mut List<u8>, poly: &Poly) -> Result<(), Memory>
     Ok(())
 }
 
-/// Premises, each behind its factor.
+/// Premises, each after its factor.
 pub fn put_factors(out: &mut List<u8>, factors: &[i128], premises: &[u32]) -> Result<(), Memory>
     requires { length premises.now ≡ length factors.now }
     ensures text { OnOk result (out.new ≡ out.old ++ spaced (paired factor_first factors.now premises.now)) }

@@ -7,7 +7,7 @@ use grind_outside::{List, Memory};
 use grind_proof_kernel::{Branch, Claim, Line};
 use grind_term_graph::NodeId;
 
-/// A word, and two nodes behind it.
+/// A word, and two nodes after it.
 fn put_two(out: &mut List<u8>, word: &[u8], left: NodeId, right: NodeId) -> Result<(), Memory>
     ensures text { OnOk result (out.new
         ≡ out.old ++ spaced (word.now ∷ decimal left ∷ decimal right ∷ [])) }
@@ -60,7 +60,7 @@ fn put_claim(out: &mut List<u8>, claim: &Claim) -> Result<(), Memory>
     }
 }
 
-/// The line of a branch, behind its index.
+/// The line of a branch, after its index.
 pub fn put_branch(out: &mut List<u8>, index: u32, branch: &Branch) -> Result<(), Memory>
     ensures text { OnOk result (out.new ≡ out.old ++ line_bytes (decimal index ∷ branch_words branch.now)) }
     ensures fits { OnOk result (BranchFits branch.now) }
@@ -73,7 +73,7 @@ pub fn put_branch(out: &mut List<u8>, index: u32, branch: &Branch) -> Result<(),
     Ok(())
 }
 
-/// The line of a proof, behind its index.
+/// The line of a proof, after its index.
 pub fn put_line(out: &mut List<u8>, index: u32, line: &Line) -> Result<(), Memory>
     requires { TakesPremises line.now.rule (length line.now.premises) }
     ensures text { OnOk result (out.new ≡ out.old ++ line_bytes (decimal index ∷ line_words line.now)) }

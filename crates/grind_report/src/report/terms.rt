@@ -66,7 +66,7 @@ fn put_function(
     Ok(())
 }
 
-/// The words of a node behind the first one.
+/// The words of a node after the first one.
 fn put_details(
     out: &mut List<u8>,
     signature: &Signature,
@@ -99,7 +99,7 @@ fn put_details(
     }
 }
 
-/// The line of a term, behind its index.
+/// The line of a term, after its index.
 pub fn put_term_line(
     out: &mut List<u8>,
     index: u32,

@@ -17,7 +17,7 @@ pub fn put_digits(out: &mut List<u8>, number: u32) -> Result<(), Memory>
     Ok(())
 }
 
-/// A word behind a space.
+/// A word after a space.
 pub fn put_word(out: &mut List<u8>, word: &[u8]) -> Result<(), Memory>
     ensures { OnOk result (out.new ≡ out.old ++ spaced (word.now ∷ [])) }
 {
@@ -26,7 +26,7 @@ pub fn put_word(out: &mut List<u8>, word: &[u8]) -> Result<(), Memory>
     Ok(())
 }
 
-/// A number behind a space.
+/// A number after a space.
 pub fn put_number(out: &mut List<u8>, number: u32) -> Result<(), Memory>
     ensures text { OnOk result (out.new ≡ out.old ++ spaced (decimal number ∷ [])) }
     ensures short { IsShort number }
@@ -36,7 +36,7 @@ pub fn put_number(out: &mut List<u8>, number: u32) -> Result<(), Memory>
     Ok(())
 }
 
-/// A signed number behind a space.
+/// A signed number after a space.
 pub fn put_integer(out: &mut List<u8>, value: i128) -> Result<(), Memory>
     ensures text { OnOk result (out.new ≡ out.old ++ spaced (signed_decimal value ∷ [])) }
     ensures fits { FitsSigned w128 value }
@@ -47,7 +47,7 @@ pub fn put_integer(out: &mut List<u8>, value: i128) -> Result<(), Memory>
     Ok(())
 }
 
-/// Numbers, each behind a space.
+/// Numbers, each after a space.
 pub fn put_numbers(out: &mut List<u8>, numbers: &[u32]) -> Result<(), Memory>
     ensures text { OnOk result (out.new ≡ out.old ++ spaced (map decimal numbers.now)) }
     ensures short { All IsShort numbers.now }
@@ -58,7 +58,7 @@ pub fn put_numbers(out: &mut List<u8>, numbers: &[u32]) -> Result<(), Memory>
     Ok(())
 }
 
-/// The numbers of nodes, each behind a space.
+/// The numbers of nodes, each after a space.
 pub fn put_nodes(out: &mut List<u8>, nodes: &[NodeId]) -> Result<(), Memory>
     ensures text { OnOk result (out.new ≡ out.old ++ spaced (map decimal nodes.now)) }
     ensures short { OnOk result (All IsShort nodes.now) }

@@ -333,7 +333,7 @@ fn equal_among(
 ///
 /// # Errors
 ///
-/// `Memory` where memory was wanted and there was none.
+/// `Memory` if out of memory.
 pub fn first_equal(
     alloc: Global,
     state: &State,

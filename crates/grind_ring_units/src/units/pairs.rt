@@ -139,7 +139,7 @@ fn scan_row(alloc: Global, state: &State, second: u32, before: Marks) -> Result<
 ///
 /// # Errors
 ///
-/// `Memory` where memory was wanted and there was none.
+/// `Memory` if out of memory.
 pub fn scan_pairs(alloc: Global, state: &State) -> Result<Scan, Memory>
     requires { IsBasis state.now.basis }
     ensures { IfOk result (λ scan. IsPairScan state.now (length state.now.basis.elements) no_pairs scan) }

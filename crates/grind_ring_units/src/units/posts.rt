@@ -59,7 +59,7 @@ fn found_by_form(
 ///
 /// # Errors
 ///
-/// `Memory` where memory was wanted and there was none.
+/// `Memory` if out of memory.
 pub fn scan_posts(alloc: Global, state: &State) -> Result<Scan, Memory>
     requires { IsBasis state.now.basis }
     ensures { IfOk result (λ scan. IsPostScan state.now scan) }

@@ -32,7 +32,7 @@ fn lacks_zero(
 ///
 /// # Errors
 ///
-/// `Memory` where memory was wanted and there was none.
+/// `Memory` if out of memory.
 pub fn first_zeroed(alloc: Global, state: &State, terms: &TermTable) -> Result<Option<u32>, Memory>
     ensures { IfOk result (λ answer. MatchOption answer (NoneZeroed state.now terms.now.nodes)
         (λ post. HasZeroed state.now terms.now.nodes post)) }
@@ -63,7 +63,7 @@ fn is_unread(alloc: Global, terms: &TermTable, it: &Equality) -> Result<bool, Me
 ///
 /// # Errors
 ///
-/// `Memory` where memory was wanted and there was none.
+/// `Memory` if out of memory.
 pub fn first_unread(alloc: Global, state: &State, terms: &TermTable) -> Result<Option<u32>, Memory>
     ensures { IfOk result (λ answer. MatchOption answer (AllRead state.now terms.now.nodes)
         (λ post. HasUnread state.now terms.now.nodes post)) }
