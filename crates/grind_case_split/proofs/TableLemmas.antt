@@ -14,7 +14,7 @@ use Rattle.grind_term_graph.specs.Terms.{prop, sort_at}
 use Rattle.grind_term_graph.specs.Shape.{IsTable}
 use Rattle.grind_term_graph.proofs.Tables.{WellShaped-at}
 use Rattle.grind_claims.specs.declared.claim.Claim.{Claim}
-use Rattle.grind_rules.specs.Tables.{free_truth, of_one, joined_truth, truth_at, node_truth, truths_of, truth_of, literal_truth, Follows, IsTableRule}
+use Rattle.grind_rules.specs.Tables.{free_truth, unary_truth, joined_truth, truth_at, node_truth, truths_of, truth_of, literal_truth, Follows, IsTableRule}
 use Rattle.grind_truth_tables.proofs.TruthLemmas.{first_truths_agree, truths_next}
 use Rattle.grind_case_split.specs.Congruences.{IsNegation}
 use Rattle.grind_case_split.specs.Facts.{literal}
@@ -94,8 +94,8 @@ negation_truth nodes m n t table is =
     truth_of_node nodes (m ∷ []) (t ∷ []) n it found.1
     ∙ ap (λ (o : Option Bool). option_or o (joined_truth it.head (map (truth_at known) it.args))) (free_other m n t below)
     ∙ ap (λ (h : Head). joined_truth h (map (truth_at known) it.args)) found.2.0
-    ∙ ap (λ (list : List ℕ). of_one not (map (truth_at known) list)) found.2.1
-    ∙ ap (λ (o : Option Bool). of_one not (o ∷ [])) inner
+    ∙ ap (λ (list : List ℕ). unary_truth not (map (truth_at known) list)) found.2.1
+    ∙ ap (λ (o : Option Bool). unary_truth not (o ∷ [])) inner
 
 one_expressed : (truth : ℕ → Option Bool) (claim : Claim) → IsSome (literal_truth truth claim) →
     All (λ premise. IsSome (literal_truth truth premise)) (claim ∷ [])

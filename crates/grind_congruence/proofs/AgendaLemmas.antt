@@ -14,7 +14,7 @@ use Rattle.grind_classes.proofs.ListLemmas.{Contains-more, Contains-nil, Contain
 use Rattle.grind_classes.proofs.MergeLemmas.{IsIn-joined, joinable}
 use Rattle.grind_congruence.specs.declared.application.Application.{Application}
 use Rattle.grind_congruence.specs.Congruence.{Congruence, AreCongruent, Fits, IsAtRest, application_of}
-use Rattle.grind_congruence.specs.Table.{IsRootOf, IsKeyOf, IsMatch, IsAt, IsTrueKey, IsCovered, IsLonger, IsSound, AgendaData, agenda_of, waiting, StandsFor, busier, with_application, HasUsers, AreFoundAmong, IsEntered, AreMoved}
+use Rattle.grind_congruence.specs.Table.{IsRootOf, IsKeyOf, IsMatch, IsAt, IsTrueKey, IsCovered, IsLonger, IsSound, AgendaData, agenda_of, waiting, KeepsUp, busier, with_application, HasUsers, AreFoundAmong, IsEntered, AreMoved}
 use Rattle.grind_congruence.proofs.EdgeLemmas.{slice_get-more}
 use Rattle.grind_congruence.proofs.ForestLemmas.{last_or}
 use Rattle.grind_congruence.proofs.TableLemmas.{AllZip-weaker, zip_together, longer_itself, longer_append, Contains-longer, one_key}
@@ -74,10 +74,10 @@ waits_now agenda more place within has =
     (Contains-append_right (waiting agenda) more place has)
 
 -- where each root stays the root of its nodes
-pub StandsFor-roots : (old new : List (List ℕ)) (agenda : AgendaData)
+pub KeepsUp-roots : (old new : List (List ℕ)) (agenda : AgendaData)
     → ((x : ℕ) → IsActive old x → IsActive new x) → ((x y : ℕ) → AreTogether old x y → AreTogether new x y)
-    → ((r x : ℕ) → IsRootOf old r x → IsRootOf new r x) → StandsFor old agenda → StandsFor new agenda
-StandsFor-roots old new agenda active together roots stands = record {
+    → ((r x : ℕ) → IsRootOf old r x → IsRootOf new r x) → KeepsUp old agenda → KeepsUp new agenda
+KeepsUp-roots old new agenda active together roots stands = record {
   sound = IsSound-lists old new agenda.applications agenda.table active together stands.sound;
   covered = λ place it at. elim (stands.covered place it at) [
     | inl wait ↦ inl wait
@@ -93,9 +93,9 @@ StandsFor-roots old new agenda active together roots stands = record {
 }
 
 -- one more node with arguments, which waits
-pub StandsFor-application : (lists : List (List ℕ)) (agenda : AgendaData) (it : Application) → IsActive lists it.node
-    → All (IsActive lists) it.term.args → (it.term.args ≡ [] → ⊥) → StandsFor lists agenda → StandsFor lists (with_application agenda it)
-StandsFor-application lists agenda it node args has stands = record {
+pub KeepsUp-application : (lists : List (List ℕ)) (agenda : AgendaData) (it : Application) → IsActive lists it.node
+    → All (IsActive lists) it.term.args → (it.term.args ≡ [] → ⊥) → KeepsUp lists agenda → KeepsUp lists (with_application agenda it)
+KeepsUp-application lists agenda it node args has stands = record {
   sound = IsSound-push lists agenda.applications agenda.table it node args has stands.sound;
   covered = λ place i at. elim (last_or agenda.applications it place i at) [
     | inl before ↦ elim (stands.covered place i before) [
@@ -129,10 +129,10 @@ moved_or_stays lists kept gone (r ∷ rs) (x ∷ xs) can zip = elim (cases_eq r 
 ]
 
 -- two classes are joined, and what has an argument among those that moved waits
-StandsFor-joined : (old new : List (List ℕ)) (kept gone : ℕ) (agenda : AgendaData) (more : List ℕ) → AreJoinable old kept gone
+KeepsUp-joined : (old new : List (List ℕ)) (kept gone : ℕ) (agenda : AgendaData) (more : List ℕ) → AreJoinable old kept gone
     → new ≡ joined old kept gone → ((x : ℕ) → IsActive old x → IsActive new x) → ((x y : ℕ) → AreTogether old x y → AreTogether new x y)
-    → HasUsers agenda.applications (members_of old gone) more → StandsFor old agenda → StandsFor new (busier agenda more)
-StandsFor-joined old new kept gone agenda more can is active together users stands = record {
+    → HasUsers agenda.applications (members_of old gone) more → KeepsUp old agenda → KeepsUp new (busier agenda more)
+KeepsUp-joined old new kept gone agenda more can is active together users stands = record {
   sound = IsSound-lists old new agenda.applications agenda.table active together stands.sound;
   covered = λ place it at. elim (stands.covered place it at) [
     | inl wait ↦ inl (waits agenda more place stands.within wait)
@@ -158,20 +158,20 @@ less_or (suc a) (suc b) = elim (less_or a b) [
   | inr order ↦ inr (omega (arith, order))
 ]
 
-pub StandsFor-merge : (old new : List (List ℕ)) (a b : ℕ) (agenda : AgendaData) (members more : List ℕ) → IsPartition old
+pub KeepsUp-merge : (old new : List (List ℕ)) (a b : ℕ) (agenda : AgendaData) (members more : List ℕ) → IsPartition old
     → IsActive old a → IsActive old b → (AreTogether old a b → ⊥)
     → ((ra rb : ℕ) → IsIn old ra a → IsIn old rb b → (root : ℕ) × (moved : ℕ) × IsMerge old ra rb new root moved) → AreMoved old a b members
     → ((x : ℕ) → IsActive new x ↔ IsActive old x) → ((x y : ℕ) → AreTogether old x y → AreTogether new x y)
-    → HasUsers agenda.applications members more → StandsFor old agenda → StandsFor new (busier agenda more)
-StandsFor-merge old new a b agenda members more classes in_a in_b apart merge moves active together users stands =
+    → HasUsers agenda.applications members more → KeepsUp old agenda → KeepsUp new (busier agenda more)
+KeepsUp-merge old new a b agenda members more classes in_a in_b apart merge moves active together users stands =
     elim (less_or (length (members_of old in_a.0)) (length (members_of old in_b.0))) [
       | inl less ↦
           let members_are : members ≡ members_of old in_a.0 = (moves in_a.0 in_b.0 in_a.1 in_b.1).1 less in
-          StandsFor-joined old new in_b.0 in_a.0 agenda more can.1 ((merge in_a.0 in_b.0 in_a.1 in_b.1).2.1 less).0 (λ x act. (active x).1 act) together
+          KeepsUp-joined old new in_b.0 in_a.0 agenda more can.1 ((merge in_a.0 in_b.0 in_a.1 in_b.1).2.1 less).0 (λ x act. (active x).1 act) together
           (subst (λ (ms : List ℕ). HasUsers agenda.applications ms more) members_are users) stands
       | inr order ↦
           let members_are : members ≡ members_of old in_b.0 = (moves in_a.0 in_b.0 in_a.1 in_b.1).0 order in
-          StandsFor-joined old new in_a.0 in_b.0 agenda more can.0 ((merge in_a.0 in_b.0 in_a.1 in_b.1).2.0 order).0 (λ x act. (active x).1 act) together
+          KeepsUp-joined old new in_a.0 in_b.0 agenda more can.0 ((merge in_a.0 in_b.0 in_a.1 in_b.1).2.0 order).0 (λ x act. (active x).1 act) together
           (subst (λ (ms : List ℕ). HasUsers agenda.applications ms more) members_are users) stands
     ]
   where
@@ -194,10 +194,10 @@ moved_first lists a b left right members classes in_a in_b less is ra rb has_a h
     rw (first, second) (λ order. absurd (omega (arith, order, less)), λ _. is)
 
 -- more keys
-pub StandsFor-keys : (lists : List (List ℕ)) (table later : List (Node × ℕ)) (applications : List Application) (work : List ℕ) (cursor : ℕ)
-    → IsLonger table later → IsSound lists applications later → StandsFor lists (agenda_of table applications work cursor)
-    → StandsFor lists (agenda_of later applications work cursor)
-StandsFor-keys lists table later applications work cursor longer sound stands = record {
+pub KeepsUp-keys : (lists : List (List ℕ)) (table later : List (Node × ℕ)) (applications : List Application) (work : List ℕ) (cursor : ℕ)
+    → IsLonger table later → IsSound lists applications later → KeepsUp lists (agenda_of table applications work cursor)
+    → KeepsUp lists (agenda_of later applications work cursor)
+KeepsUp-keys lists table later applications work cursor longer sound stands = record {
   sound = sound;
   covered = λ place it at. elim (stands.covered place it at) [
     | inl wait ↦ inl wait
@@ -212,10 +212,10 @@ drop_next (y ∷ xs) zero x e = ap (λ z. z ∷ xs) (same_Some y x e)
 drop_next (y ∷ xs) (suc k) x e = drop_next xs k x e
 
 -- the next place was looked at
-pub StandsFor-next : (lists : List (List ℕ)) (agenda : AgendaData) (place : ℕ) → slice_get agenda.work agenda.cursor ≡ Some place
-    → ((it : Application) → IsAt agenda.applications place it → IsCovered lists agenda.table it) → StandsFor lists agenda
-    → StandsFor lists (agenda_of agenda.table agenda.applications agenda.work (agenda.cursor + 1))
-StandsFor-next lists agenda place next cover stands = record {
+pub KeepsUp-next : (lists : List (List ℕ)) (agenda : AgendaData) (place : ℕ) → slice_get agenda.work agenda.cursor ≡ Some place
+    → ((it : Application) → IsAt agenda.applications place it → IsCovered lists agenda.table it) → KeepsUp lists agenda
+    → KeepsUp lists (agenda_of agenda.table agenda.applications agenda.work (agenda.cursor + 1))
+KeepsUp-next lists agenda place next cover stands = record {
   sound = stands.sound;
   covered = λ p it at. elim (cases_eq p place) [
     | inl is ↦ inr (cover it (subst (λ (k : ℕ). IsAt agenda.applications k it) is at))
@@ -349,7 +349,7 @@ drop_all (x ∷ xs) = drop_all xs
 
 -- where nothing waits, the classes are at rest
 pub rest_of_done : (closure : Congruence) (nodes : List Node) (agenda : AgendaData) → IsPartition closure.lists → Fits closure nodes
-    → agenda.applications ≡ closure.applications → StandsFor closure.lists agenda → agenda.cursor ≡ length agenda.work
+    → agenda.applications ≡ closure.applications → KeepsUp closure.lists agenda → agenda.cursor ≡ length agenda.work
     → IsAtRest closure.lists nodes
 rest_of_done closure nodes agenda classes fits same stands done a b act_a act_b it =
     let left = covered a it.left act_a it.left_is it.has_args in

@@ -15,9 +15,9 @@ use Rattle.grind_congruence.specs.declared.view.Noted.{Noted}
 use Rattle.grind_congruence.specs.Asserted.{IsActivated}
 use Rattle.grind_congruence.specs.Congruence.{Congruence, Fits, IsAtRest, application_of}
 use Rattle.grind_congruence.specs.Changes.{IsEnlisted, IsMerged}
-use Rattle.grind_congruence.specs.Table.{IsLonger, AgendaData, StandsFor, busier, IsTakenIn, IsTouched, IsWorkedOn, AreFoundAmong}
+use Rattle.grind_congruence.specs.Table.{IsLonger, AgendaData, KeepsUp, busier, IsTakenIn, IsTouched, IsWorkedOn, AreFoundAmong}
 use Rattle.grind_congruence.specs.Marks.{cut, views, IsGrown, IsKept}
-use Rattle.grind_congruence.proofs.AgendaLemmas.{StandsFor-roots, StandsFor-application, StandsFor-merge, rest_of_done, found_no_rest}
+use Rattle.grind_congruence.proofs.AgendaLemmas.{KeepsUp-roots, KeepsUp-application, KeepsUp-merge, rest_of_done, found_no_rest}
 use Rattle.grind_congruence.proofs.EdgeLemmas.{AreClassesOf-activate, AreClassesOf-merge}
 use Rattle.grind_congruence.proofs.FitLemmas.{empty_or}
 use Rattle.grind_congruence.proofs.MarkLemmas.{IsKept-grown, views-grown, grown_itself}
@@ -74,9 +74,9 @@ kept_enlisted old new edges agenda later marks n node kept it fresh args =
     IsKept-grown old new edges edges agenda later marks kept it.marked (grown_taken edges agenda later n node it.taken) (record {
       classes = AreClassesOf-activate old.lists new.lists edges n kept.present.classes it.partition it.active it.together;
       stands = elim (empty_or node.args) [
-        | inl none ↦ subst (StandsFor new.lists) (sym (it.taken.plain none)) still
-        | inr has ↦ subst (StandsFor new.lists) (sym (it.taken.applied has))
-            (StandsFor-application new.lists agenda (application_of n node) ((it.active n).1 (inr refl))
+        | inl none ↦ subst (KeepsUp new.lists) (sym (it.taken.plain none)) still
+        | inr has ↦ subst (KeepsUp new.lists) (sym (it.taken.applied has))
+            (KeepsUp-application new.lists agenda (application_of n node) ((it.active n).1 (inr refl))
             (All-weaker (IsActive old.lists) (IsActive new.lists) (λ x act. (it.active x).1 (inl act)) node.args args) has still)
       ];
     })
@@ -85,8 +85,8 @@ kept_enlisted old new edges agenda later marks n node kept it fresh args =
     stays r x has = subst (λ (ls : List (List ℕ)). IsIn ls r x) (sym it.own)
         ((IsIn-with_class old.lists n r x kept.present.classes.partition fresh).1 (inl has))
 
-    still : StandsFor new.lists agenda
-    still = StandsFor-roots old.lists new.lists agenda (λ x act. (it.active x).1 (inl act)) (λ x y t. (it.together x y).1 (inl t))
+    still : KeepsUp new.lists agenda
+    still = KeepsUp-roots old.lists new.lists agenda (λ x act. (it.active x).1 (inl act)) (λ x y t. (it.together x y).1 (inl t))
         (λ r x root. (stays r r root.0, stays r x root.1)) kept.present.stands
 
 pub views_enlisted : (old new : Grouping) (edges : List Edge) (agenda later : AgendaData) (marks : List Noted) (n : ℕ) (node : Node)
@@ -112,7 +112,7 @@ kept_merged old new edges edge agenda later marks kept it left right apart =
     (IsKept-grown old new edges (edges ++ edge ∷ []) agenda (busier agenda it.touched.0) marks kept it.marked
     (grown_with edges (edge ∷ []) agenda it.touched.0) (record {
       classes = AreClassesOf-merge old.lists new.lists edges edge kept.present.classes it.partition left right it.active it.together;
-      stands = StandsFor-merge old.lists new.lists edge.left edge.right agenda it.members it.touched.0 kept.present.classes.partition
+      stands = KeepsUp-merge old.lists new.lists edge.left edge.right agenda it.members it.touched.0 kept.present.classes.partition
           left right apart it.merged it.moves it.active (λ x y t. (it.together x y).1 (inl t)) it.touched.2 kept.present.stands;
     }))
 
@@ -143,7 +143,7 @@ grown_worked edges agenda later worked = record {
 }
 
 pub kept_worked : (grouping : Grouping) (edges : List Edge) (agenda later : AgendaData) (marks : List Noted) → IsKept grouping edges agenda marks
-    → IsWorkedOn agenda later → StandsFor grouping.lists later → IsKept grouping edges later marks
+    → IsWorkedOn agenda later → KeepsUp grouping.lists later → IsKept grouping edges later marks
 kept_worked grouping edges agenda later marks kept worked stands =
     IsKept-grown grouping grouping edges edges agenda later marks kept refl (grown_worked edges agenda later worked)
     (record { classes = kept.present.classes; stands = stands })
@@ -170,7 +170,7 @@ activated_is old new nodes n node agenda later stands taken was is = record {
 
 -- whether there is rest, after work
 answered_rest : (closure : Congruence) (nodes : List Node) (later : AgendaData) (answer : Option Found) → IsPartition closure.lists
-    → Fits closure nodes → later.applications ≡ closure.applications → StandsFor closure.lists later
+    → Fits closure nodes → later.applications ≡ closure.applications → KeepsUp closure.lists later
     → IfSome answer (λ found. AreFoundAmong closure.lists closure.applications found.left found.right)
     → (IsNone answer → later.cursor ≡ length later.work) → IsNone answer ↔ IsAtRest closure.lists nodes
 answered_rest closure nodes later None classes fits same stands some none =
@@ -181,7 +181,7 @@ answered_rest closure nodes later (Some found) classes fits same stands some non
 )
 
 pub worked_rest : (closure : Congruence) (nodes : List Node) (later : AgendaData) (result : Result (Option Found) Memory)
-    → IsPartition closure.lists → Fits closure nodes → later.applications ≡ closure.applications → StandsFor closure.lists later
+    → IsPartition closure.lists → Fits closure nodes → later.applications ≡ closure.applications → KeepsUp closure.lists later
     → IfOk result (λ answer. IfSome answer (λ found. AreFoundAmong closure.lists closure.applications found.left found.right))
     → IfOk result (λ answer. IsNone answer → later.cursor ≡ length later.work)
     → IfOk result (λ answer. IsNone answer ↔ IsAtRest closure.lists nodes)

@@ -6,7 +6,7 @@ use Rattle.grind_congruence.specs.declared.view.ClosureView.{ClosureView}
 use Rattle.grind_congruence.specs.declared.view.Noted.{Noted}
 use Rattle.grind_congruence.specs.Congruence.{Congruence}
 use Rattle.grind_congruence.specs.Edges.{AreClassesOf}
-use Rattle.grind_congruence.specs.Table.{IsLonger, AgendaData, StandsFor}
+use Rattle.grind_congruence.specs.Table.{IsLonger, AgendaData, KeepsUp}
 
 -- the first mark notes at most what the second does
 pub record IsBefore (first second : Noted) : Type 0 where
@@ -91,7 +91,7 @@ value_of grouping edges agenda marks = record {
 -- the classes are those that the edges make, and the agenda stands for them
 pub record IsWhole (state : State) : Type 0 where
   pub classes : AreClassesOf state.lists state.edges
-  pub stands : StandsFor state.lists state.agenda
+  pub stands : KeepsUp state.lists state.agenda
 
 -- each of them
 abbrev pub AreWhole : List State → Type 0

@@ -74,7 +74,7 @@ abbrev pub waiting : AgendaData → List ℕ
 waiting agenda = drop agenda.cursor agenda.work
 
 -- the agenda stands for these classes: each node with arguments waits, or the table has its key with a node of its class
-pub record StandsFor (lists : List (List ℕ)) (agenda : AgendaData) : Type 0 where
+pub record KeepsUp (lists : List (List ℕ)) (agenda : AgendaData) : Type 0 where
   pub sound : IsSound lists agenda.applications agenda.table
   pub covered : (place : ℕ) (it : Application) → IsAt agenda.applications place it
       → Contains (waiting agenda) place ⊎ IsCovered lists agenda.table it

@@ -2,7 +2,7 @@
 ghost use Rattle.std.specs.Prelude.{◌≡◌, ℕ, [], length, IfOk, IfSome, IsNone, IsTrue, OnOk, OnErr, ◌↔◌};
 ghost use Rattle.grind_classes.specs.Classes.{IsPartition};
 ghost use Rattle.grind_congruence.specs.Marks.{cut};
-ghost use Rattle.grind_congruence.specs.Table.{StandsFor, IsTakenIn, IsTouched, IsWorkedOn, AreFoundAmong};
+ghost use Rattle.grind_congruence.specs.Table.{KeepsUp, IsTakenIn, IsTouched, IsWorkedOn, AreFoundAmong};
 
 use crate::application::{Application, copied};
 use crate::edge::Found;
@@ -82,9 +82,9 @@ impl Agenda {
     // Two congruent nodes of different classes, if there are any. What has to be looked at is, up to the first that makes such a
     // pair.
     pub(crate) fn step(&mut self, alloc: Global, classes: &Classes) -> Result<Option<Found>, Memory>
-        requires stands { StandsFor classes.now.lists self.old }
+        requires stands { KeepsUp classes.now.lists self.old }
         requires partition { IsPartition classes.now.lists }
-        ensures stands { StandsFor classes.now.lists self.new }
+        ensures stands { KeepsUp classes.now.lists self.new }
         ensures worked { IsWorkedOn self.old self.new }
         ensures found { IfOk result (λ answer. IfSome answer
             (λ found. AreFoundAmong classes.now.lists self.old.applications found.left found.right)) }

@@ -3,7 +3,7 @@ ghost use Rattle.std.specs.Prelude.{◌≡◌, ◌<◌, ◌^◌, [], Some, None,
 ghost use Rattle.std.specs.List.{AllZip};
 ghost use Rattle.grind_classes.specs.Classes.{IsActive, IsPartition};
 ghost use Rattle.grind_congruence.specs.declared.application.Application.{Application};
-ghost use Rattle.grind_congruence.specs.Table.{IsAt, IsRootOf, IsKeyOf, IsSound, IsCovered, IsLonger, StandsFor, AreFoundAmong, agenda_of};
+ghost use Rattle.grind_congruence.specs.Table.{IsAt, IsRootOf, IsKeyOf, IsSound, IsCovered, IsLonger, KeepsUp, AreFoundAmong, agenda_of};
 
 use crate::application::Application;
 use crate::edge::Found;
@@ -28,10 +28,10 @@ pub(crate) fn drain(
     table: &mut Keys,
     cursor: &mut u32,
 ) -> Result<Option<Found>, Memory>
-    requires stands { StandsFor look.now.classes.now.lists (agenda_of table.old look.now.applications.now look.now.work.now cursor.old) }
+    requires stands { KeepsUp look.now.classes.now.lists (agenda_of table.old look.now.applications.now look.now.work.now cursor.old) }
     requires partition { IsPartition look.now.classes.now.lists }
     requires bound { length look.now.work.now < 2 ^ 32 }
-    ensures stands { StandsFor look.now.classes.now.lists (agenda_of table.new look.now.applications.now look.now.work.now cursor.new) }
+    ensures stands { KeepsUp look.now.classes.now.lists (agenda_of table.new look.now.applications.now look.now.work.now cursor.new) }
     ensures longer { IsLonger table.old table.new }
     ensures found { IfOk result (λ answer. IfSome answer
         (λ found. AreFoundAmong look.now.classes.now.lists look.now.applications.now found.left found.right)) }

@@ -5,7 +5,6 @@ use Rattle.grind_monomials.specs.Order.{place}
 use Rattle.grind_monomials.specs.Monomials.{IsMonomial}
 use Rattle.grind_polynomials.specs.declared.poly.Term.{Term}
 unfoldable pub use Rattle.grind_polynomials.specs.Numbers.{fit_or_refuse}
-unfoldable pub use Rattle.grind_polynomials.specs.Numbers.{fit_or_refuse as fit}
 
 -- the monomial with this coefficient
 abbrev pub term_of : ℤ → List ℕ → Term

@@ -1,7 +1,7 @@
 //! Lines and pairs of branches, written after a proof.
 ghost use Rattle.std.specs.Prelude.{◌≡◌, ℕ, ◌+◌, ◌<◌, ◌∷◌, [], All, IfOk, OnOk, OnErr, length};
 ghost use Rattle.grind_claims.specs.declared.claim.Claim.TheVariants.{Same, Absurd};
-ghost use Rattle.grind_claims.specs.declared.proof.Rule.TheVariants.{Clash};
+ghost use Rattle.grind_claims.specs.declared.proof.Rule.TheVariants.{Refl, Sym, Trans, Clash};
 ghost use Rattle.grind_claims.specs.Claims.{IsFormed};
 ghost use Rattle.grind_proof_kernel.specs.Literals.{IsLiteral};
 ghost use Rattle.grind_proof_kernel.specs.Typing.{appended};
@@ -93,6 +93,8 @@ impl<'a> Writer<'a> {
         requires ready { CanWrite self.now proof.old }
         requires formed { IsFormed proof.old.terms.nodes claim }
         requires allowed { MayWrite self.now proof.old rule [] claim }
+        ensures line { OnOk result (proof.new ≡ appended proof.old (line_of self.now.branch rule [] claim)) }
+        ensures unchanged { OnErr result (proof.new ≡ proof.old) }
         ensures writes { Writes self.now proof.old proof.new }
         ensures ready { CanWrite self.now proof.new }
         ensures next { IfOk result (λ number. number ≡ length proof.old.lines) }
@@ -117,6 +119,8 @@ impl<'a> Writer<'a> {
         requires formed { IsFormed proof.old.terms.nodes claim }
         requires usable { IsUsable proof.old self.now.branch premise }
         requires allowed { MayWrite self.now proof.old rule (premise ∷ []) claim }
+        ensures line { OnOk result (proof.new ≡ appended proof.old (line_of self.now.branch rule (premise ∷ []) claim)) }
+        ensures unchanged { OnErr result (proof.new ≡ proof.old) }
         ensures writes { Writes self.now proof.old proof.new }
         ensures ready { CanWrite self.now proof.new }
         ensures next { IfOk result (λ number. number ≡ length proof.old.lines) }
@@ -137,6 +141,8 @@ impl<'a> Writer<'a> {
         requires one { IsUsable proof.old self.now.branch one }
         requires other { IsUsable proof.old self.now.branch other }
         requires clash { MayWrite self.now proof.old Clash (one ∷ other ∷ []) Absurd }
+        ensures line { OnOk result (proof.new ≡ appended proof.old (line_of self.now.branch Clash (one ∷ other ∷ []) Absurd)) }
+        ensures unchanged { OnErr result (proof.new ≡ proof.old) }
         ensures writes { Writes self.now proof.old proof.new }
         ensures ready { CanWrite self.now proof.new }
         ensures next { IfOk result (λ number. number ≡ length proof.old.lines) }
@@ -154,6 +160,8 @@ impl<'a> Writer<'a> {
     pub fn reflexive(&self, proof: &mut Proof, a: NodeId) -> Result<u32, Memory>
         requires ready { CanWrite self.now proof.old }
         requires within { a < length proof.old.terms.nodes }
+        ensures line { OnOk result (proof.new ≡ appended proof.old (line_of self.now.branch Refl [] (Same a a))) }
+        ensures unchanged { OnErr result (proof.new ≡ proof.old) }
         ensures writes { Writes self.now proof.old proof.new }
         ensures ready { CanWrite self.now proof.new }
         ensures next { IfOk result (λ number. number ≡ length proof.old.lines) }
@@ -170,6 +178,8 @@ impl<'a> Writer<'a> {
     pub fn symmetric(&self, proof: &mut Proof, told: &Equality) -> Result<u32, Memory>
         requires ready { CanWrite self.now proof.old }
         requires told { IsTold self.now proof.old told.now }
+        ensures line { OnOk result (proof.new ≡ appended proof.old (line_of self.now.branch Sym (told.now.line ∷ []) (Same told.now.right told.now.left))) }
+        ensures unchanged { OnErr result (proof.new ≡ proof.old) }
         ensures writes { Writes self.now proof.old proof.new }
         ensures ready { CanWrite self.now proof.new }
         ensures next { IfOk result (λ number. number ≡ length proof.old.lines) }
@@ -195,6 +205,8 @@ impl<'a> Writer<'a> {
         requires first { IsTold self.now proof.old first.now }
         requires second { IsTold self.now proof.old second.now }
         requires meets { first.now.right ≡ second.now.left }
+        ensures line { OnOk result (proof.new ≡ appended proof.old (line_of self.now.branch Trans (first.now.line ∷ second.now.line ∷ []) (Same first.now.left second.now.right))) }
+        ensures unchanged { OnErr result (proof.new ≡ proof.old) }
         ensures writes { Writes self.now proof.old proof.new }
         ensures ready { CanWrite self.now proof.new }
         ensures next { IfOk result (λ number. number ≡ length proof.old.lines) }

@@ -13,7 +13,7 @@ use Rattle.grind_ring_basis.specs.Bases.{fact, HasNormalForm}
 use Rattle.grind_ring_basis.specs.Pairs.{IsPairAt}
 use Rattle.grind_ring_units.specs.declared.types.Equality.{Equality}
 use Rattle.grind_ring_units.specs.declared.types.State.{State}
-use Rattle.grind_ring_units.specs.Given.{IsListed, IsClaimed}
+use Rattle.grind_ring_units.specs.Given.{IsAmong, IsClaimed}
 use Rattle.grind_ring_units.specs.Zeroed.{LacksZero}
 use Rattle.grind_ring_units.specs.PostUnits.{IsReducible}
 use Rattle.grind_ring_units.specs.PairUnits.{IsPairReducible, IsPairDone}
@@ -26,10 +26,10 @@ module _ (facts rest : List Fact) (poly : List Term) (so_far : Passes Fact (λ (
       let whole : it ≡ fact it.post poly = λ i. record { post = it.post; poly = same i } in
       subst (λ (k : Fact). Contains facts k) whole (passes_here (λ (k : Fact). k.poly ≡ poly) facts rest it tail is so_far)
 
-  pub listed_nowhere : length rest ≡ 0 → ¬ IsListed facts poly
+  pub listed_nowhere : length rest ≡ 0 → ¬ IsAmong facts poly
   listed_nowhere none listed = passes_end (λ (k : Fact). k.poly ≡ poly) facts rest none so_far (fact listed.0 poly) listed.1 refl
 
-pub claimed_nowhere : (state : State) (poly : List Term) → ¬ IsListed state.taken poly → ¬ IsListed state.own poly → ¬ IsClaimed state poly
+pub claimed_nowhere : (state : State) (poly : List Term) → ¬ IsAmong state.taken poly → ¬ IsAmong state.own poly → ¬ IsClaimed state poly
 claimed_nowhere state poly taken own claimed = elim claimed.1 [
   | inl one ↦ taken (claimed.0, one)
   | inr other ↦ own (claimed.0, other)

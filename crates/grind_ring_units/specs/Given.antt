@@ -15,8 +15,8 @@ abbrev pub Knows : State → Fact → Type 0
 Knows state it = Contains state.taken it ⊎ Contains state.own it
 
 -- some fact of the list says that the polynomial is 0
-abbrev pub IsListed : List Fact → List Term → Type 0
-IsListed facts poly = (post : ℕ) × Contains facts (fact post poly)
+abbrev pub IsAmong : List Fact → List Term → Type 0
+IsAmong facts poly = (post : ℕ) × Contains facts (fact post poly)
 
 -- some post that the solver knows says that the polynomial is 0
 abbrev pub IsClaimed : State → List Term → Type 0

@@ -1,7 +1,7 @@
 //! Which polynomials are known to be 0.
 ghost use Rattle.std.specs.Prelude.{◌≡◌, ◌↔◌, [], Contains, IsTrue, MatchOption};
 ghost use Rattle.grind_ring_basis.specs.Bases.{fact};
-ghost use Rattle.grind_ring_units.specs.Given.{Knows, IsClaimed, IsListed};
+ghost use Rattle.grind_ring_units.specs.Given.{Knows, IsClaimed, IsAmong};
 
 use crate::types::State;
 use grind_differences::is_same_poly;
@@ -10,7 +10,7 @@ use grind_ring_basis::Fact;
 
 // A post among the facts that says that the polynomial is 0, or None exactly where there is none.
 fn post_among(facts: &[Fact], poly: &Poly) -> Option<u32>
-    ensures { MatchOption result (¬ IsListed facts.now poly.now) (λ post. Contains facts.now (fact post poly.now)) }
+    ensures { MatchOption result (¬ IsAmong facts.now poly.now) (λ post. Contains facts.now (fact post poly.now)) }
 {
     let mut rest = facts;
     while let Some((it, tail)) = rest.split_first() {

@@ -17,7 +17,7 @@ use Rattle.std.proofs.lemmas.Map.Views.{All-insert_key, tells_apart}
 use Rattle.grind_term_graph.specs.declared.node.Node.{Node}
 use Rattle.grind_claims.specs.declared.claim.Claim.{Claim}
 use Rattle.grind_claims.specs.Claims.{claims_of}
-use Rattle.grind_truth_tables.specs.Needed.{Lists, Falls, IsConnective, RestsOn, Names, NameNode, CoversNamed, IsSelfContained, Gathers, Asks, told}
+use Rattle.grind_truth_tables.specs.Needed.{Lists, Falls, IsConnective, RestsOn, Names, NameNode, CoversNamed, IsSelfContained, Collects, Asks, told}
 use Rattle.grind_truth_tables.proofs.TruthLemmas.{listed_below}
 
 -- nothing stands in an empty list
@@ -64,7 +64,7 @@ same_as k m (inl e) = e
 same_as k m (inr h) = absurd h
 
 -- a key that was put among the others
-pub gathers_one : (old new : List ℕ) (k : ℕ) → new ≡ insert_key nat_cmp old k → Gathers old (k ∷ []) new
+pub gathers_one : (old new : List ℕ) (k : ℕ) → new ≡ insert_key nat_cmp old k → Collects old (k ∷ []) new
 gathers_one old new k is = record {
   kept = λ m h. subst (λ (keys : List ℕ). Lists keys m) (sym is) (kept_key old k m h);
   put = λ m h. subst (λ (n : ℕ). Lists new n) (sym (same_as k m h)) (subst (λ (keys : List ℕ). Lists keys k) (sym is) (put_key old k));
@@ -92,7 +92,7 @@ unfolding Lists
 first_or_later k m tail (inl e) = inl (inl e)
 first_or_later k m tail (inr h) = inr h
 
-pub gathering_goes_on : (old nodes rest tail now next : List ℕ) (k : ℕ) → rest ≡ k ∷ tail → Gathers now (k ∷ []) next →
+pub gathering_goes_on : (old nodes rest tail now next : List ℕ) (k : ℕ) → rest ≡ k ∷ tail → Collects now (k ∷ []) next →
     Gathering old nodes rest now → Gathering old nodes tail next
 gathering_goes_on old nodes rest tail now next k is one h = record {
   kept = λ m has. one.kept m (h.kept m has);
@@ -111,7 +111,7 @@ gathering_goes_on old nodes rest tail now next k is one h = record {
       );
 }
 
-pub gathering_ends : (old nodes rest now : List ℕ) → length rest ≡ 0 → Gathering old nodes rest now → Gathers old nodes now
+pub gathering_ends : (old nodes rest now : List ℕ) → length rest ≡ 0 → Gathering old nodes rest now → Collects old nodes now
 gathering_ends old nodes [] now none h = record {
   kept = h.kept;
   put = λ m has. elim (h.put m has) [ inl there ↦ there | inr left ↦ none_listed m left ];
@@ -166,7 +166,7 @@ pub no_connective : (nodes : List Node) (free : List ℕ) (n m : ℕ) (node : No
 no_connective nodes free n m node there none rests = none (rests_at nodes free n m node there rests).0
 
 pub asks_arguments : (nodes : List Node) (free old new : List ℕ) (n : ℕ) (node : Node) → slice_get nodes n ≡ Some node →
-    All (λ m. m < n) node.args → Gathers old node.args new → Asks nodes free n old new
+    All (λ m. m < n) node.args → Collects old node.args new → Asks nodes free n old new
 asks_arguments nodes free old new n node there lower gathers = record {
   kept = gathers.kept;
   asked = λ m rests.
@@ -315,7 +315,7 @@ covering_ends nodes free claims order pending none h = (
 -- ---- the nodes that claims name
 
 pub names_put : (claim named : Claim) (k : ℕ) (old new : List ℕ) → claim ≡ named → ((m : ℕ) → Names named m → m ≡ k) →
-    Gathers old (k ∷ []) new → (m : ℕ) → Names claim m → Lists new m
+    Collects old (k ∷ []) new → (m : ℕ) → Names claim m → Lists new m
 names_put claim named k old new is only gathers m names =
     gathers.put m (listed_as k m (only m (subst (λ (it : Claim). Names it m) is names)))
 

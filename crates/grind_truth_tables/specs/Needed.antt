@@ -68,7 +68,7 @@ pub record IsSelfContained (nodes : List Node) (free order : List ℕ) : Type 0 
   pub closed : (n m : ℕ) → Lists order n → RestsOn nodes free n m → (m < n) × Lists order m
 
 -- the keys were joined by those nodes
-pub record Gathers (old nodes new : List ℕ) : Type 0 where
+pub record Collects (old nodes new : List ℕ) : Type 0 where
   pub kept : (m : ℕ) → Lists old m → Lists new m
   pub put : (m : ℕ) → Lists nodes m → Lists new m
   pub below : (d : ℕ) → All (λ m. m < d) nodes → All (λ m. m < d) old → All (λ m. m < d) new

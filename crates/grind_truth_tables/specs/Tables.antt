@@ -18,20 +18,20 @@ free_truth (f ∷ free) [] n = None
 free_truth (f ∷ free) (t ∷ truths) n = if nat_eq f n then Some t else free_truth free truths n
 
 -- the connective of one truth, where there is one
-abbrev pub of_one : (Bool → Bool) → List (Option Bool) → Option Bool
-of_one f (Some a ∷ []) = Some (f a)
-of_one f (None ∷ []) = None
-of_one f [] = None
-of_one f (a ∷ b ∷ rest) = None
+abbrev pub unary_truth : (Bool → Bool) → List (Option Bool) → Option Bool
+unary_truth f (Some a ∷ []) = Some (f a)
+unary_truth f (None ∷ []) = None
+unary_truth f [] = None
+unary_truth f (a ∷ b ∷ rest) = None
 
 -- the connective of two truths, where there are two
-abbrev pub of_two : (Bool → Bool → Bool) → List (Option Bool) → Option Bool
-of_two f (Some a ∷ Some b ∷ []) = Some (f a b)
-of_two f (Some a ∷ None ∷ []) = None
-of_two f (None ∷ b ∷ []) = None
-of_two f [] = None
-of_two f (a ∷ []) = None
-of_two f (a ∷ b ∷ c ∷ rest) = None
+abbrev pub binary_truth : (Bool → Bool → Bool) → List (Option Bool) → Option Bool
+binary_truth f (Some a ∷ Some b ∷ []) = Some (f a b)
+binary_truth f (Some a ∷ None ∷ []) = None
+binary_truth f (None ∷ b ∷ []) = None
+binary_truth f [] = None
+binary_truth f (a ∷ []) = None
+binary_truth f (a ∷ b ∷ c ∷ rest) = None
 
 -- whether the first implies the second
 abbrev pub implies : Bool → Bool → Bool
@@ -47,11 +47,11 @@ alike false b = not b
 abbrev pub joined_truth : Head → List (Option Bool) → Option Bool
 joined_truth head.True truths = Some true
 joined_truth head.False truths = Some false
-joined_truth head.Not truths = of_one not truths
-joined_truth head.And truths = of_two (λ a b. a && b) truths
-joined_truth head.Or truths = of_two (λ a b. a || b) truths
-joined_truth head.Implies truths = of_two implies truths
-joined_truth head.Eq truths = of_two alike truths
+joined_truth head.Not truths = unary_truth not truths
+joined_truth head.And truths = binary_truth (λ a b. a && b) truths
+joined_truth head.Or truths = binary_truth (λ a b. a || b) truths
+joined_truth head.Implies truths = binary_truth implies truths
+joined_truth head.Eq truths = binary_truth alike truths
 joined_truth head.Le truths = None
 joined_truth (head.Int number) truths = None
 joined_truth head.Add truths = None

@@ -1,7 +1,7 @@
 //! On which nodes the truths of claims rest: so a truth table costs no more than the terms of its claims.
 ghost use Rattle.std.specs.Prelude.{IsTrue, ◌↔◌, ◌≡◌, ℕ, [], ◌∷◌, ◌<◌, All, IfOk, OnOk};
 ghost use Rattle.grind_claims.specs.Claims.{claims_of};
-ghost use Rattle.grind_truth_tables.specs.Needed.{Lists, IsConnective, Names, CoversNamed, IsSelfContained, Gathers, Asks, NameNode};
+ghost use Rattle.grind_truth_tables.specs.Needed.{Lists, IsConnective, Names, CoversNamed, IsSelfContained, Collects, Asks, NameNode};
 
 use grind_claims::Claim;
 use grind_outside::{List, Memory};
@@ -70,7 +70,7 @@ fn name(set: &mut BTreeSet<u32>, claim: &Claim) -> Result<(), Memory>
 
 /// Puts the node among the others.
 fn put(set: &mut BTreeSet<u32>, node: NodeId) -> Result<(), Memory>
-    ensures { OnOk result (Gathers set.old.keys (node ∷ []) set.new.keys) }
+    ensures { OnOk result (Collects set.old.keys (node ∷ []) set.new.keys) }
 {
     set.insert(node.number())?;
     Ok(())
@@ -101,7 +101,7 @@ fn ask(
 
 /// Puts each of the nodes among the others.
 fn put_all(set: &mut BTreeSet<u32>, nodes: &[NodeId]) -> Result<(), Memory>
-    ensures { OnOk result (Gathers set.old.keys nodes.now set.new.keys) }
+    ensures { OnOk result (Collects set.old.keys nodes.now set.new.keys) }
 {
     let mut rest = nodes;
     while let Some((node, tail)) = rest.split_first() {

@@ -2,7 +2,7 @@
 ghost use Rattle.std.specs.Prelude.{ℕ, ◌≤◌, ◌≡◌, ◌&&◌, ◌||◌, not, Bool, length, map, IfOk};
 ghost use Rattle.std.specs.Option.{option_map};
 ghost use Rattle.grind_truth_tables.specs.Needed.{Lists, RestsOn, IsSelfContained, told};
-ghost use Rattle.grind_truth_tables.specs.Tables.{free_truth, of_one, of_two, implies, alike, joined_truth, truth_of, literal_truth, conclusion_truth};
+ghost use Rattle.grind_truth_tables.specs.Tables.{free_truth, unary_truth, binary_truth, implies, alike, joined_truth, truth_of, literal_truth, conclusion_truth};
 
 use grind_claims::Claim;
 use grind_outside::Memory;
@@ -154,7 +154,7 @@ fn alike(truths: Option<(bool, bool)>) -> Option<bool>
 
 /// The truth of the only argument, where there is one argument and it has a truth.
 fn one_truth(known: &Truths, args: &[NodeId]) -> Option<bool>
-    ensures { (f : Bool → Bool) → of_one f (map (told known.now) args.now) ≡ option_map f result }
+    ensures { (f : Bool → Bool) → unary_truth f (map (told known.now) args.now) ≡ option_map f result }
 {
     let [only] = args else {
         return None;
@@ -164,7 +164,7 @@ fn one_truth(known: &Truths, args: &[NodeId]) -> Option<bool>
 
 /// The truths of the two arguments, where there are two and both have a truth.
 fn two_truths(known: &Truths, args: &[NodeId]) -> Option<(bool, bool)>
-    ensures { (f : Bool → Bool → Bool) → of_two f (map (told known.now) args.now)
+    ensures { (f : Bool → Bool → Bool) → binary_truth f (map (told known.now) args.now)
         ≡ option_map (λ pair. f pair.0 pair.1) result }
 {
     let [first, second] = args else {

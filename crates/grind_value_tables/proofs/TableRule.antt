@@ -18,7 +18,7 @@ use Rattle.grind_term_graph.specs.Shape.{IsShaped, IsTable}
 use Rattle.grind_term_graph.proofs.Tables.{WellShaped-at}
 use Rattle.grind_claims.specs.declared.claim.Claim.{Claim}
 use Rattle.grind_claims.specs.declared.claim.Claim.TheVariants.{Holds, Fails, Same, Differ, AtMost, Zero, Absurd}
-use Rattle.grind_truth_tables.specs.Tables.{free_truth, of_one, of_two, implies, alike, joined_truth, truth_at, node_truth, truths_of, truth_of, literal_truth, conclusion_truth, IsTableRule}
+use Rattle.grind_truth_tables.specs.Tables.{free_truth, unary_truth, binary_truth, implies, alike, joined_truth, truth_at, node_truth, truths_of, truth_of, literal_truth, conclusion_truth, IsTableRule}
 use Rattle.grind_value_tables.specs.Respects.{one, zero_value, IsTruthValue, Means, OfOne, OfTwo, Respects}
 use Rattle.grind_value_tables.specs.Truths.{ClaimTrue}
 use Rattle.grind_value_tables.proofs.Meanings.{PremisesHold, false≢one, false_unless, formula_value}
@@ -68,13 +68,13 @@ alike_decides false true = (λ e. absurd (false≢true e), λ h. absurd (false_i
 alike_decides false false = (λ e. refl, λ h. refl)
 
 -- a connective of two truths is a truth where both are
-of_two_some : (f : Bool → Bool → Bool) (o p : Option Bool) (truth : Bool) → of_two f (o ∷ p ∷ []) ≡ Some truth
+of_two_some : (f : Bool → Bool → Bool) (o p : Option Bool) (truth : Bool) → binary_truth f (o ∷ p ∷ []) ≡ Some truth
     → (x : Bool) × (y : Bool) × (o ≡ Some x) × (p ≡ Some y) × (f x y ≡ truth)
 of_two_some f (Some x) (Some y) truth e = (x, y, refl, refl, same_Some (f x y) truth e)
 of_two_some f (Some x) None truth e = absurd (none-some truth e)
 of_two_some f None p truth e = absurd (none-some truth e)
 
-of_one_some : (f : Bool → Bool) (o : Option Bool) (truth : Bool) → of_one f (o ∷ []) ≡ Some truth
+of_one_some : (f : Bool → Bool) (o : Option Bool) (truth : Bool) → unary_truth f (o ∷ []) ≡ Some truth
     → (x : Bool) × (o ≡ Some x) × (f x ≡ truth)
 of_one_some f (Some x) truth e = (x, refl, same_Some (f x) truth e)
 of_one_some f None truth e = absurd (none-some truth e)
@@ -134,7 +134,7 @@ module _ (v : ℕ → ℤ) where
   module _ (known : List (Option Bool)) (agree : Agree known) (z : ℤ) (value : IsTruthValue z) (truth : Bool) where
     -- what a connective makes of the truths of its arguments is the value that it asks for
     of_one_value : (P : ℤ → Type 0) (f : Bool → Bool) → ((x : Bool) → Decides (f x) (P (bit x))) → (args : List ℕ)
-        → OfOne (λ a. (z ≡ one) ↔ P a) (map v args) → of_one f (map (truth_at known) args) ≡ Some truth → z ≡ bit truth
+        → OfOne (λ a. (z ≡ one) ↔ P a) (map v args) → unary_truth f (map (truth_at known) args) ≡ Some truth → z ≡ bit truth
     of_one_value P f decides [] means e = absurd means
     of_one_value P f decides (a ∷ []) means e =
         let it = of_one_some f (truth_at known a) truth e in
@@ -144,7 +144,7 @@ module _ (v : ℕ → ℤ) where
 
     of_two_value : (P : ℤ → ℤ → Type 0) (f : Bool → Bool → Bool) → ((x y : Bool) → Decides (f x y) (P (bit x) (bit y)))
         → (args : List ℕ) → OfTwo (λ a b. (z ≡ one) ↔ P a b) (map v args)
-        → of_two f (map (truth_at known) args) ≡ Some truth → z ≡ bit truth
+        → binary_truth f (map (truth_at known) args) ≡ Some truth → z ≡ bit truth
     of_two_value P f decides [] means e = absurd means
     of_two_value P f decides (a ∷ []) means e = absurd means
     of_two_value P f decides (a ∷ b ∷ []) means e =

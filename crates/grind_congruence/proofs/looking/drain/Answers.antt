@@ -2,7 +2,7 @@ use Rattle.std.specs.Prelude.{◌<◌, ◌≤◌, Option, IsNone, length, refl}
 use Rattle.std.proofs.Common.{arith, sym, subst}
 use Rattle.grind_congruence.specs.declared.edge.Found.{Found}
 use Rattle.grind_congruence.specs.Table.{agenda_of}
-use Rattle.grind_congruence.proofs.AgendaLemmas.{StandsFor-keys, StandsFor-next}
+use Rattle.grind_congruence.proofs.AgendaLemmas.{KeepsUp-keys, KeepsUp-next}
 use Rattle.grind_congruence.proofs.TableLemmas.{longer_itself, longer_through}
 use Rattle.grind_congruence.proofs.looking.drain.Goals as goal
 
@@ -18,7 +18,7 @@ look_at-requires-clause-sound c = c.loop-cursor.invariant.stands.sound
 
 pub returns-in_err-answer-clause-stands : goal.returns-in_err-answer-clause-stands
 returns-in_err-answer-clause-stands c =
-    StandsFor-keys c.args.look.now.classes.now.lists c.loop-cursor.table c.look_at.new.table c.args.look.now.applications.now c.args.look.now.work.now
+    KeepsUp-keys c.args.look.now.classes.now.lists c.loop-cursor.table c.look_at.new.table c.args.look.now.applications.now c.args.look.now.work.now
     c.loop-cursor.cursor c.look_at.ensures.longer c.look_at.ensures.sound c.loop-cursor.invariant.stands
 
 pub returns-in_err-answer-clause-longer : goal.returns-in_err-answer-clause-longer
@@ -27,7 +27,7 @@ returns-in_err-answer-clause-longer c =
 
 pub returns-in-Some-clause-stands : goal.returns-in-Some-clause-stands
 returns-in-Some-clause-stands c =
-    StandsFor-keys c.args.look.now.classes.now.lists c.loop-cursor.table c.look_at.new.table c.args.look.now.applications.now c.args.look.now.work.now
+    KeepsUp-keys c.args.look.now.classes.now.lists c.loop-cursor.table c.look_at.new.table c.args.look.now.applications.now c.args.look.now.work.now
     c.loop-cursor.cursor c.look_at.ensures.longer c.look_at.ensures.sound c.loop-cursor.invariant.stands
 
 pub returns-in-Some-clause-longer : goal.returns-in-Some-clause-longer
@@ -42,10 +42,10 @@ pub loop-cursor-preserved : goal.loop-cursor-preserved
 loop-cursor-preserved c =
     let none : IsNone c.in_ok-answer.answer = subst (λ (o : Option Found). IsNone o) (sym c.in_default.is) refl in
     record {
-      stands = StandsFor-next c.args.look.now.classes.now.lists
+      stands = KeepsUp-next c.args.look.now.classes.now.lists
           (agenda_of c.look_at.new.table c.args.look.now.applications.now c.args.look.now.work.now c.loop-cursor.cursor) c.place_at-place.result
           c.place_at-place.ensures (λ it stands. c.in_ok-answer.ensures.covered none it stands)
-          (StandsFor-keys c.args.look.now.classes.now.lists c.loop-cursor.table c.look_at.new.table c.args.look.now.applications.now c.args.look.now.work.now
+          (KeepsUp-keys c.args.look.now.classes.now.lists c.loop-cursor.table c.look_at.new.table c.args.look.now.applications.now c.args.look.now.work.now
           c.loop-cursor.cursor c.look_at.ensures.longer c.look_at.ensures.sound c.loop-cursor.invariant.stands);
       longer = longer_through c.args.table.now c.loop-cursor.table c.look_at.new.table c.loop-cursor.invariant.longer c.look_at.ensures.longer;
     }
