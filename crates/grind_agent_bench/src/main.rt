@@ -6,7 +6,7 @@
 
 mod scenes;
 
-use grind_cli::reader::theory_of;
+use grind_theory_files::theory_of;
 use grind_outside::{FileShelf, Memory, Shelf};
 use grind_scenes::{all_alone, are_marked_formulas, first_matches, next_step, zeros};
 use grind_schemes::Lemmas;

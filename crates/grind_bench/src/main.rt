@@ -16,7 +16,7 @@ mod tables;
 mod trees;
 
 use chains::chain;
-use grind_cli::reader::theory_of;
+use grind_theory_files::theory_of;
 use grind_outside::{FileShelf, List, Memory, Shelf};
 use grind_par_check::check_parallel;
 use grind_proof_kernel::{Proof, Verdict, check};

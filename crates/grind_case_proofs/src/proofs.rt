@@ -6,7 +6,7 @@ ghost use Rattle.grind_theory.specs.Theories.{AreDeclared};
 use grind_cases::case::Case;
 use grind_cases::texts::split;
 use grind_cases::unfollowed::Unfollowed;
-use grind_cli::reader::theory_of;
+use grind_theory_files::theory_of;
 use grind_line_reader::made_proof::proof_of;
 use grind_line_reader::spelled::{claim_from, line_of};
 use grind_outside::List;

@@ -1,5 +1,5 @@
 //! Why a directive of a case was not followed.
-use grind_cli::reader::ReaderRefusal;
+use grind_theory_files::ReaderRefusal;
 use grind_outside::Memory;
 use std::alloc::AllocError;
 

@@ -1,6 +1,6 @@
 //! The proof of a goal: congruence decides it.
 ghost use Rattle.std.specs.Prelude.{IfOk};
-ghost use Rattle.grind_cli.specs.Outcomes.{IsOutcomeOf};
+ghost use Rattle.grind_answers.specs.Outcomes.{IsOutcomeOf};
 
 use grind_case_split::{Plain, ground_goals, solve_goal as decide};
 use grind_outside::Memory;

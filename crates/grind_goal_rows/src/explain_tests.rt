@@ -4,7 +4,7 @@ ghost use Rattle.std.specs.Prelude.{IfOk, IfSome};
 ghost use Rattle.grind_proof_kernel.specs.Typing.{HasTerms};
 
 use grind_case_split::{Equations, equations_of};
-use grind_cli::reader::theory_of;
+use grind_theory_files::theory_of;
 use grind_explain::explain;
 use grind_outside::Memory;
 use grind_proof_kernel::{Claim, Proof, check_line};

@@ -2,7 +2,7 @@
 ghost use Rattle.std.specs.Prelude.{◌≤◌, IsTrue, [], ◌∷◌, length};
 ghost use Rattle.grind_schemes.specs.Instances.{IsSubstitution};
 
-use grind_cli::reader::theory_of;
+use grind_theory_files::theory_of;
 use grind_outside::Memory;
 use grind_schemes::{Theorem, instantiate, missing};
 use grind_term_graph::{NodeId, TermRefusal, TermTable};

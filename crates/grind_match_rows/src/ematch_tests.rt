@@ -3,7 +3,7 @@ ghost use Rattle.std.specs.Prelude.{◌<◌, OnOk, length};
 ghost use Rattle.grind_scenes.specs.Scenes.{AreClassesOf};
 
 use grind_classes::Classes;
-use grind_cli::reader::theory_of;
+use grind_theory_files::theory_of;
 use grind_ematch::Match;
 use grind_outside::{List, Memory};
 use grind_scenes::{all_alone, first_matches, join, zeros};
