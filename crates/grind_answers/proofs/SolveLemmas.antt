@@ -16,8 +16,8 @@ use Rattle.grind_rules.specs.Laws.{IsPremiseCount}
 use Rattle.grind_proof_kernel.specs.Laws.{TypedLinesCount}
 use Rattle.grind_proof_kernel.specs.Typing.{Typed}
 use Rattle.grind_value_tables.specs.Laws.{TypedIsTrue}
-use Rattle.grind_case_split.specs.Congruences.{IsAnswered, CongruenceEntails}
-use Rattle.grind_case_split.specs.Laws.{GroundGoals}
+use Rattle.grind_goal_equations.specs.Congruences.{IsAnswered, CongruenceEntails}
+use Rattle.grind_goal_equations.specs.Laws.{GroundGoals}
 use Rattle.grind_report.specs.Report.{TakesPremises}
 use Rattle.grind_report.specs.Blocks.{widest}
 use Rattle.grind_answers.specs.Answers.{IsTrueEverywhere, IsGroundGoal}

@@ -5,7 +5,7 @@ use Rattle.grind_outside.specs.Outside.{appended, IsFront}
 use Rattle.grind_schemes.specs.Goals.{GoalData}
 use Rattle.grind_schemes.specs.declared.lemmas.Lemmas.{Lemmas}
 use Rattle.grind_claims.specs.declared.proof.Proof.{Proof}
-use Rattle.grind_case_split.specs.Congruences.{IsAnswered, CongruenceEntails, ComparesTerms}
+use Rattle.grind_goal_equations.specs.Congruences.{IsAnswered, CongruenceEntails, ComparesTerms}
 use Rattle.grind_proof_kernel.specs.Typing.{Typed}
 use Rattle.grind_signature.specs.Signatures.{SignatureData}
 use Rattle.grind_value_tables.specs.Respects.{Respects}

@@ -5,7 +5,7 @@ use Rattle.grind_schemes.specs.declared.lemmas.Lemmas.{Lemmas}
 use Rattle.grind_claims.specs.declared.proof.Line.{Line}
 use Rattle.grind_claims.specs.declared.proof.Proof.{Proof}
 use Rattle.grind_proof_kernel.specs.Typing.{Typed}
-use Rattle.grind_case_split.specs.Congruences.{IsAnswered, CongruenceEntails}
+use Rattle.grind_goal_equations.specs.Congruences.{IsAnswered, CongruenceEntails}
 use Rattle.grind_report.specs.declared.report.Outcome.{Outcome}
 use Rattle.grind_report.specs.declared.report.Outcome.TheVariants as outcomes
 use Rattle.grind_report.specs.Report.{TakesPremises}
