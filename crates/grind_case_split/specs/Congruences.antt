@@ -1,8 +1,8 @@
--- Right answers to a goal, as far as congruence decides it.
+-- Right answers to a goal, as far as congruence decides it. The words of which these speak are passed on.
 use Rattle.grind_schemes.specs.Goals.{GoalData}
 use Rattle.grind_schemes.specs.declared.lemmas.Lemmas.{Lemmas}
-use Rattle.grind_goal_equations.specs.Congruences.{CongruenceEntails, IsAnswered}
-use Rattle.grind_given_lines.specs.Writing.{IsProofOf}
+pub use Rattle.grind_goal_equations.specs.Congruences.{CongruenceEntails, IsAnswered, ComparesTerms}
+pub use Rattle.grind_given_lines.specs.Writing.{IsProofOf}
 use Rattle.grind_case_split.specs.declared.plain.Plain.{Plain}
 use Rattle.grind_case_split.specs.declared.plain.Plain.TheVariants as plain
 

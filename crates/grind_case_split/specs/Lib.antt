@@ -1,1 +1,2 @@
 pub mod Congruences
+pub mod Laws

@@ -1,4 +1,4 @@
--- Proofs of a goal that are written in the root.
+-- Proofs of a goal that are written in the root, and their claims.
 use Rattle.std.specs.Prelude.{ℕ, ◌≡◌, true, [], Bool, false}
 use Rattle.grind_schemes.specs.Goals.{GoalData}
 use Rattle.grind_schemes.specs.declared.lemmas.Lemmas.{Lemmas}

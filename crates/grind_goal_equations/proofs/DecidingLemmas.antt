@@ -18,7 +18,6 @@ use Rattle.grind_congruence.specs.Derivable.Derivable.{given, reflexive, symmetr
 use Rattle.grind_congruence.specs.Derivable.DerivableRow.{no_more, and_more}
 use Rattle.grind_congruence.specs.Exact.{pair_of}
 use Rattle.grind_congruence.proofs.ExactLemmas.{exact_at_rest}
-use Rattle.grind_needed_edges.specs.declared.why.Why.TheVariants as why
 use Rattle.grind_goal_equations.specs.declared.fact.Fact.{Fact}
 use Rattle.grind_goal_equations.specs.Congruences.{IsGiven, IsNodeOf, FollowsFromGiven, CongruenceEntails}
 use Rattle.grind_goal_equations.specs.Building.{IsFounded, AreFounded, HasEnds, IsClosure}

@@ -6,7 +6,6 @@ use Rattle.grind_term_graph.specs.declared.node.Node.{Node}
 use Rattle.grind_schemes.specs.Goals.{GoalData}
 use Rattle.grind_term_rules.specs.TermRules.{IsEquation}
 use Rattle.grind_congruence.specs.Derivable.{Derivable}
-use Rattle.grind_goal_equations.specs.declared.plain.Plain.TheVariants as plain
 
 -- the node is the negation of that one
 abbrev pub IsNegation : List Node → ℕ → ℕ → Type 0

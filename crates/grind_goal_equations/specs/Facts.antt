@@ -1,4 +1,4 @@
--- What the sources of a goal, its hypotheses and the denial of its conclusion, say of two terms. No public clause cites these words.
+-- What the sources of a goal, its hypotheses and the denial of its conclusion, say of two terms.
 use Rattle.std.specs.Prelude.{ℕ, ◌≡◌, ◌<◌, Bool, true, false, List, Some, slice_get, length}
 use Rattle.grind_term_graph.specs.declared.node.Node.{Node}
 use Rattle.grind_term_graph.specs.Terms.{prop, sort_at}

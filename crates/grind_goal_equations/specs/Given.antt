@@ -4,7 +4,6 @@ use Rattle.grind_schemes.specs.Goals.{GoalData}
 use Rattle.grind_classes.specs.Classes.{AreTogether}
 use Rattle.grind_congruence.specs.declared.edge.Edge.{Edge}
 use Rattle.grind_congruence.specs.Congruence.{Congruence}
-use Rattle.grind_needed_edges.specs.declared.why.Why.TheVariants as why
 use Rattle.grind_goal_equations.specs.declared.fact.Fact.{Fact}
 use Rattle.grind_goal_equations.specs.Congruences.{IsGiven, IsDenied}
 use Rattle.grind_goal_equations.specs.Facts.{IsFact, equates}
