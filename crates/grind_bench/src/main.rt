@@ -16,12 +16,12 @@ mod tables;
 mod trees;
 
 use chains::chain;
-use grind_cli::reader::theory_of;
 use grind_outside::{FileShelf, List, Memory, Shelf};
 use grind_par_check::check_parallel;
 use grind_proof_kernel::{Proof, Verdict, check};
 use grind_schemes::{Goal, Lemmas};
 use grind_theory::Theory;
+use grind_theory_files::theory_of;
 use pairs::{form_pairs, poly_pairs};
 use readings::{are_nonzero, basis_of, left_side, parts_of, rest_of, sides_of, terms_of};
 use std::alloc::Global;
