@@ -26,6 +26,7 @@ FILES = {
     "grind_differences": ["Bounds", "Differences", "Equations", "Held", "Laws"],
     "grind_classes": ["Classes", "Trail"],
     "grind_congruence": ["Derivable", "Congruence", "Edges", "Marks", "Table", "Changes", "Forest", "Exact", "Asserted"],
+    "grind_needed_edges": ["Needed", "Numbered", "Plans"],
     "grind_schemes": ["Labels", "Goals", "Limits", "Schemes", "Theorems", "Instances", "InstanceNodes", "Laws"],
     "grind_claims": ["Claims", "Laws"],
     "grind_term_rules": ["TermRules"],

@@ -26,9 +26,10 @@ use Rattle.grind_congruence.specs.Derivable.Derivable.{given, reflexive, symmetr
 use Rattle.grind_congruence.specs.Derivable.DerivableRow.{no_more, and_more}
 use Rattle.grind_congruence.specs.Exact.{pair_of}
 use Rattle.grind_congruence.proofs.ExactLemmas.{exact_at_rest}
-use Rattle.grind_explain.specs.declared.why.Why.{Why}
-use Rattle.grind_explain.specs.declared.why.Why.TheVariants as why
-use Rattle.grind_explain.specs.Explained.{IsReason, HasReasons, AreJoinedWithin}
+use Rattle.grind_needed_edges.specs.declared.why.Why.{Why}
+use Rattle.grind_needed_edges.specs.declared.why.Why.TheVariants as why
+use Rattle.grind_needed_edges.specs.Needed.{AreJoinedWithin}
+use Rattle.grind_explain.specs.Explained.{IsReason, HasReasons}
 use Rattle.grind_case_split.specs.declared.fact.Fact.{Fact}
 use Rattle.grind_case_split.specs.Congruences.{IsGiven, IsNodeOf, FollowsFromGiven, CongruenceEntails}
 use Rattle.grind_case_split.specs.Building.{IsFounded, AreFounded, HasEnds, IsClosure}

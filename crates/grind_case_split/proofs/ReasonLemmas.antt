@@ -11,8 +11,8 @@ use Rattle.grind_claims.specs.declared.proof.Proof.{Proof}
 use Rattle.grind_claims.proofs.Growth.{item_stays}
 use Rattle.grind_congruence.specs.declared.edge.Edge.{Edge}
 use Rattle.grind_congruence.proofs.EdgeLemmas.{slice_get-last}
-use Rattle.grind_explain.specs.declared.why.Why.{Why}
-use Rattle.grind_explain.specs.declared.why.Why.TheVariants as why
+use Rattle.grind_needed_edges.specs.declared.why.Why.{Why}
+use Rattle.grind_needed_edges.specs.declared.why.Why.TheVariants as why
 use Rattle.grind_proof_writer.specs.Lines.{Tells, Appends}
 use Rattle.grind_proof_writer.proofs.LineLemmas.{Tells-stays}
 use Rattle.grind_case_split.specs.declared.fact.Fact.{Fact}

@@ -4,7 +4,7 @@ use Rattle.grind_term_graph.specs.declared.node.Node.{Node}
 use Rattle.grind_classes.specs.Classes.{IsActive, AreTogether}
 use Rattle.grind_congruence.specs.declared.edge.Edge.{Edge}
 use Rattle.grind_congruence.specs.Congruence.{Congruence, Fits, IsAtRest}
-use Rattle.grind_explain.specs.Explained.{AreJoinedWithin}
+use Rattle.grind_needed_edges.specs.Needed.{AreJoinedWithin}
 
 -- the edge at that place is a given one, or a congruence by the edges before it, whose number is 0
 abbrev pub IsFounded : List Node → List Edge → List Edge → ℕ → Edge → Type 0

@@ -7,8 +7,8 @@ use Rattle.grind_claims.specs.declared.proof.Proof.{Proof}
 use Rattle.grind_classes.specs.Classes.{AreTogether}
 use Rattle.grind_congruence.specs.declared.edge.Edge.{Edge}
 use Rattle.grind_congruence.specs.Congruence.{Congruence}
-use Rattle.grind_explain.specs.declared.why.Why.{Why}
-use Rattle.grind_explain.specs.declared.why.Why.TheVariants as why
+use Rattle.grind_needed_edges.specs.declared.why.Why.{Why}
+use Rattle.grind_needed_edges.specs.declared.why.Why.TheVariants as why
 use Rattle.grind_case_split.specs.declared.fact.Fact.{Fact}
 use Rattle.grind_case_split.specs.Congruences.{IsGiven, IsDenied}
 use Rattle.grind_case_split.specs.Facts.{IsFact, equates}

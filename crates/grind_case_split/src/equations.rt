@@ -11,7 +11,7 @@ use crate::building::closure_of;
 use crate::given::given_by;
 use crate::reasons::{Written, write_down};
 use grind_congruence::{Closure, Edge};
-use grind_explain::Why;
+use grind_needed_edges::Why;
 use grind_outside::{List, Memory};
 use grind_proof_kernel::Proof;
 use grind_proof_writer::Writer;

@@ -1,6 +1,6 @@
 //! Why the pairs that a goal gives hold, written down once the goal is known to follow.
 ghost use Rattle.std.specs.Prelude.{◌≡◌, ◌+◌, ◌∷◌, [], ◌≤◌, ℕ, length, All, IfOk, OnOk};
-ghost use Rattle.grind_explain.specs.declared.why.Why.TheVariants.{Congruence};
+ghost use Rattle.grind_needed_edges.specs.declared.why.Why.TheVariants.{Congruence};
 ghost use Rattle.grind_proof_writer.specs.Writing.{Writes};
 ghost use Rattle.grind_case_split.specs.Writing.{WritesRoot};
 ghost use Rattle.grind_case_split.specs.Given.{IsOfSource, IsReasonOf, AreWritten, IsLedger};
@@ -10,7 +10,7 @@ use crate::fact::fact_at;
 use crate::fact_lines::fact_line;
 use crate::given::is_equal;
 use grind_congruence::Edge;
-use grind_explain::Why;
+use grind_needed_edges::Why;
 use grind_outside::{List, Memory};
 use grind_proof_kernel::Proof;
 use grind_proof_writer::Writer;

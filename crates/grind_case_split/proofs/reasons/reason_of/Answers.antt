@@ -1,7 +1,7 @@
 use Rattle.std.specs.Prelude.{◌≡◌, ℕ, true, false, IsNone}
 use Rattle.std.proofs.Common.{rules, subst}
 use Rattle.grind_proof_writer.specs.Lines.{Tells}
-use Rattle.grind_explain.specs.declared.why.Why.TheVariants as why
+use Rattle.grind_needed_edges.specs.declared.why.Why.TheVariants as why
 use Rattle.grind_proof_writer.proofs.LineLemmas.{Appends-none}
 use Rattle.grind_case_split.specs.Facts.{equates, sides_claim}
 use Rattle.grind_case_split.proofs.ReasonLemmas.{IsReasonOf-nothing, IsReasonOf-difference, IsReasonOf-line}

@@ -1,6 +1,6 @@
 use Rattle.std.specs.Prelude.{◌+◌, List}
 use Rattle.std.proofs.Common.{sym, subst}
-use Rattle.grind_explain.specs.declared.why.Why.{Why}
+use Rattle.grind_needed_edges.specs.declared.why.Why.{Why}
 use Rattle.grind_case_split.specs.Given.{AreWritten}
 use Rattle.grind_case_split.proofs.LineLemmas.{written_in_root}
 use Rattle.grind_case_split.proofs.ReasonLemmas.{AreWritten-step}
