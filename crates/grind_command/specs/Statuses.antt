@@ -1,5 +1,7 @@
 -- The number of each status, and the note of each ending.
 use Rattle.std.specs.Prelude.{ℕ, List, [], ◌++◌, codes, decimal}
+use Rattle.grind_tokens.specs.declared.tokens.LexRefusal.{LexRefusal}
+use Rattle.grind_tokens.specs.declared.tokens.LexRefusal.TheVariants as lexical
 use Rattle.grind_theory.specs.declared.theory.Fault.{Fault}
 use Rattle.grind_theory.specs.declared.theory.Fault.TheVariants as faults
 use Rattle.grind_command.specs.declared.status.Status.{Status}
@@ -32,20 +34,30 @@ status_of endings.WriteFault = statuses.WriteFault
 status_of endings.Memory = statuses.Memory
 status_of endings.TooLong = statuses.TooLong
 
+-- what the note of a file without tokens says before the offset; no file is refused for want of memory
+abbrev pub lexical_lead : LexRefusal → List ℕ
+lexical_lead (lexical.BadByte offset) = codes ": bad byte at offset "
+lexical_lead (lexical.NumberTooLarge offset) = codes ": number too large at offset "
+lexical_lead (lexical.NameTooLong offset) = codes ": name too long at offset "
+lexical_lead lexical.Memory = codes ": out of memory at offset "
+
+-- the offset
+abbrev pub offset_of : LexRefusal → ℕ
+offset_of (lexical.BadByte offset) = offset
+offset_of (lexical.NumberTooLarge offset) = offset
+offset_of (lexical.NameTooLong offset) = offset
+offset_of lexical.Memory = 0
+
 -- what the note of a refused file says before a number
 abbrev pub lead_of : Refusal → List ℕ
-lead_of (refusals.BadByte offset) = codes ": bad byte at offset "
-lead_of (refusals.NumberTooLarge offset) = codes ": number too large at offset "
-lead_of (refusals.NameTooLong offset) = codes ": name too long at offset "
+lead_of (refusals.Lex refusal) = lexical_lead refusal
 lead_of (refusals.Syntax decl) = codes ": declaration "
 lead_of (refusals.TooDeep decl) = codes ": declaration "
 lead_of (refusals.Bad decl fault) = codes ": declaration "
 
 -- the number: of a byte, or of a declaration
 abbrev pub place_of : Refusal → ℕ
-place_of (refusals.BadByte offset) = offset
-place_of (refusals.NumberTooLarge offset) = offset
-place_of (refusals.NameTooLong offset) = offset
+place_of (refusals.Lex refusal) = offset_of refusal
 place_of (refusals.Syntax decl) = decl
 place_of (refusals.TooDeep decl) = decl
 place_of (refusals.Bad decl fault) = decl
@@ -61,9 +73,7 @@ fault_words faults.Size = codes ": too large\n"
 
 -- what stands after the number
 abbrev pub trail_of : Refusal → List ℕ
-trail_of (refusals.BadByte offset) = codes "\n"
-trail_of (refusals.NumberTooLarge offset) = codes "\n"
-trail_of (refusals.NameTooLong offset) = codes "\n"
+trail_of (refusals.Lex refusal) = codes "\n"
 trail_of (refusals.Syntax decl) = codes ": syntax\n"
 trail_of (refusals.TooDeep decl) = codes ": nested too deep\n"
 trail_of (refusals.Bad decl fault) = fault_words fault

@@ -1,13 +1,14 @@
 //! The line that a run leaves on the notes.
 ghost use Rattle.std.specs.Prelude.{◌≡◌, ◌++◌, decimal};
 ghost use Rattle.grind_outside.specs.Outside.{appended, IsFront};
-ghost use Rattle.grind_command.specs.Statuses.{note_of, refusal_words, lead_of, place_of, trail_of, fault_words};
+ghost use Rattle.grind_command.specs.Statuses.{note_of, refusal_words, lexical_lead, offset_of, lead_of, place_of, trail_of, fault_words};
 ghost use Rattle.grind_command.specs.Notes.{Notes};
 
 use crate::ending::Ending;
 use crate::refusal::Refusal;
 use grind_outside::{Sink, SinkRefusal, write_whole};
 use grind_theory::theory::Fault;
+use grind_tokens::tokens::LexRefusal;
 use itoa::Buffer;
 
 /// Writes the line of an ending, for a file of that name. A refusal of the notes leaves some first
@@ -68,12 +69,34 @@ fn lead(refusal: Refusal) -> &'static [u8]
     ensures { result.now ≡ lead_of refusal }
 {
     match refusal {
-        Refusal::BadByte { .. } => b": bad byte at offset ",
-        Refusal::NumberTooLarge { .. } => b": number too large at offset ",
-        Refusal::NameTooLong { .. } => b": name too long at offset ",
+        Refusal::Lex(lexical) => lexical_lead(lexical),
         Refusal::Syntax { .. } | Refusal::TooDeep { .. } | Refusal::Bad { .. } => {
             b": declaration "
         }
+    }
+}
+
+// What stands before the offset.
+fn lexical_lead(lexical: LexRefusal) -> &'static [u8]
+    ensures { result.now ≡ lexical_lead lexical }
+{
+    match lexical {
+        LexRefusal::BadByte { .. } => b": bad byte at offset ",
+        LexRefusal::NumberTooLarge { .. } => b": number too large at offset ",
+        LexRefusal::NameTooLong { .. } => b": name too long at offset ",
+        LexRefusal::Memory => b": out of memory at offset ",
+    }
+}
+
+// The offset of the byte.
+fn offset(lexical: LexRefusal) -> u32
+    ensures { result ≡ offset_of lexical }
+{
+    match lexical {
+        LexRefusal::BadByte { offset } => offset,
+        LexRefusal::NumberTooLarge { offset } => offset,
+        LexRefusal::NameTooLong { offset } => offset,
+        LexRefusal::Memory => 0,
     }
 }
 
@@ -82,9 +105,7 @@ fn place(refusal: Refusal) -> u32
     ensures { result ≡ place_of refusal }
 {
     match refusal {
-        Refusal::BadByte { offset } => offset,
-        Refusal::NumberTooLarge { offset } => offset,
-        Refusal::NameTooLong { offset } => offset,
+        Refusal::Lex(lexical) => offset(lexical),
         Refusal::Syntax { decl } => decl,
         Refusal::TooDeep { decl } => decl,
         Refusal::Bad { decl, .. } => decl,
@@ -96,9 +117,7 @@ fn trail(refusal: Refusal) -> &'static [u8]
     ensures { result.now ≡ trail_of refusal }
 {
     match refusal {
-        Refusal::BadByte { .. } => b"\n",
-        Refusal::NumberTooLarge { .. } => b"\n",
-        Refusal::NameTooLong { .. } => b"\n",
+        Refusal::Lex(_) => b"\n",
         Refusal::Syntax { .. } => b": syntax\n",
         Refusal::TooDeep { .. } => b": nested too deep\n",
         Refusal::Bad { fault, .. } => words_of(fault),

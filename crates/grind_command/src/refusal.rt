@@ -1,24 +1,12 @@
 //! Why a file is refused.
 use grind_theory::Fault;
+use grind_tokens::tokens::LexRefusal;
 
 /// Why the bytes are no theory. Offsets are counted from 0, declarations from 1.
 #[derive(Clone, Copy, Debug, PartialEq, Eq)]
 pub enum Refusal {
-    /// No token, white space or comment begins here, or the bytes are no text.
-    BadByte {
-        /// The offset of the byte.
-        offset: u32,
-    },
-    /// A number is larger than 2^127 - 1.
-    NumberTooLarge {
-        /// The offset of its first digit.
-        offset: u32,
-    },
-    /// A name is longer than 255 bytes.
-    NameTooLong {
-        /// The offset of its first byte.
-        offset: u32,
-    },
+    /// The bytes have no tokens. No file is refused for want of memory, which ends a run in another way.
+    Lex(LexRefusal),
     /// A declaration is outside the grammar.
     Syntax {
         /// Its number.

@@ -1,7 +1,6 @@
 -- What bytes are: one theory, or refused for one thing.
 use Rattle.std.proofs.Common.{◌≡◌, ℕ, List, ap, subst, ◌∙◌}
 use Rattle.grind_tokens.specs.declared.tokens.Token.{Token}
-use Rattle.grind_tokens.specs.declared.tokens.LexRefusal.TheVariants as lexical
 use Rattle.grind_tokens.specs.Tokens.{OneReading, NotBoth, OneBreak}
 use Rattle.grind_grammar.specs.Lexemes.{lexemes}
 use Rattle.grind_grammar.specs.Terms.{Declaration}
@@ -14,16 +13,6 @@ use Rattle.grind_theory.specs.Theories.{IsTheoryOf, RefusedAt}
 use Rattle.grind_theory.specs.Laws as laws
 use Rattle.grind_command.specs.declared.refusal.Refusal.TheVariants as refusals
 use Rattle.grind_theory_files.specs.TheoryFiles.{Declares, IsUngrammatical, OneTheoryOf, RefusedHaveNone, OneRefusalOf}
-
--- equal refusals of the tokens have one place
-same_bad_byte : (m n : ℕ) → lexical.BadByte m ≡ lexical.BadByte n → refusals.BadByte m ≡ refusals.BadByte n
-same_bad_byte m n e = cc
-
-same_large : (m n : ℕ) → lexical.NumberTooLarge m ≡ lexical.NumberTooLarge n → refusals.NumberTooLarge m ≡ refusals.NumberTooLarge n
-same_large m n e = cc
-
-same_long : (m n : ℕ) → lexical.NameTooLong m ≡ lexical.NameTooLong n → refusals.NameTooLong m ≡ refusals.NameTooLong n
-same_long m n e = cc
 
 -- equal numbers and faults make equal refusals
 same_syntax : (m n : ℕ) → m ≡ n → refusals.Syntax m ≡ refusals.Syntax n
@@ -54,9 +43,7 @@ module _ (reading : OneReading) (lexed : NotBoth) (one_break : OneBreak) (parse 
       (subst (λ (t : List Token). files.RefusedAt (lexemes bytes t) number fault) (reading bytes us ts of p.tokens_of) r)
 
   pub refused_none : RefusedHaveNone
-  refused_none bytes (refusals.BadByte offset) r theory (ts, ds, p, of) = lexed bytes ts (lexical.BadByte offset) p.tokens_of r
-  refused_none bytes (refusals.NumberTooLarge offset) r theory (ts, ds, p, of) = lexed bytes ts (lexical.NumberTooLarge offset) p.tokens_of r
-  refused_none bytes (refusals.NameTooLong offset) r theory (ts, ds, p, of) = lexed bytes ts (lexical.NameTooLong offset) p.tokens_of r
+  refused_none bytes (refusals.Lex refusal) r theory (ts, ds, p, of) = lexed bytes ts refusal p.tokens_of r
   refused_none bytes (refusals.Syntax decl) r theory (ts, ds, p, of) = declares_apart bytes ts ds decl Syntax p r
   refused_none bytes (refusals.TooDeep decl) r theory (ts, ds, p, of) = declares_apart bytes ts ds decl TooDeep p r
   refused_none bytes (refusals.Bad decl fault) (us, es, q, r) theory (ts, ds, p, of) =
@@ -70,39 +57,19 @@ module _ (reading : OneReading) (lexed : NotBoth) (one_break : OneBreak) (parse 
       (subst (λ (t : List Token). files.RefusedAt (lexemes bytes t) m f) (reading bytes ts us of also) r) s
 
   pub one_refusal : OneRefusalOf
-  one_refusal bytes (refusals.BadByte m) (refusals.BadByte n) r s = same_bad_byte m n (one_break bytes (lexical.BadByte m) (lexical.BadByte n) r s)
-  one_refusal bytes (refusals.BadByte m) (refusals.NumberTooLarge n) r s = absurd (let e : lexical.BadByte m ≡ lexical.NumberTooLarge n = one_break bytes (lexical.BadByte m) (lexical.NumberTooLarge n) r s in cc)
-  one_refusal bytes (refusals.BadByte m) (refusals.NameTooLong n) r s = absurd (let e : lexical.BadByte m ≡ lexical.NameTooLong n = one_break bytes (lexical.BadByte m) (lexical.NameTooLong n) r s in cc)
-  one_refusal bytes (refusals.BadByte m) (refusals.Syntax n) r (us, of, s) = absurd (lexed bytes us (lexical.BadByte m) of r)
-  one_refusal bytes (refusals.BadByte m) (refusals.TooDeep n) r (us, of, s) = absurd (lexed bytes us (lexical.BadByte m) of r)
-  one_refusal bytes (refusals.BadByte m) (refusals.Bad n g) r (us, es, q, s) = absurd (lexed bytes us (lexical.BadByte m) q.tokens_of r)
-  one_refusal bytes (refusals.NumberTooLarge m) (refusals.BadByte n) r s = absurd (let e : lexical.NumberTooLarge m ≡ lexical.BadByte n = one_break bytes (lexical.NumberTooLarge m) (lexical.BadByte n) r s in cc)
-  one_refusal bytes (refusals.NumberTooLarge m) (refusals.NumberTooLarge n) r s = same_large m n (one_break bytes (lexical.NumberTooLarge m) (lexical.NumberTooLarge n) r s)
-  one_refusal bytes (refusals.NumberTooLarge m) (refusals.NameTooLong n) r s = absurd (let e : lexical.NumberTooLarge m ≡ lexical.NameTooLong n = one_break bytes (lexical.NumberTooLarge m) (lexical.NameTooLong n) r s in cc)
-  one_refusal bytes (refusals.NumberTooLarge m) (refusals.Syntax n) r (us, of, s) = absurd (lexed bytes us (lexical.NumberTooLarge m) of r)
-  one_refusal bytes (refusals.NumberTooLarge m) (refusals.TooDeep n) r (us, of, s) = absurd (lexed bytes us (lexical.NumberTooLarge m) of r)
-  one_refusal bytes (refusals.NumberTooLarge m) (refusals.Bad n g) r (us, es, q, s) = absurd (lexed bytes us (lexical.NumberTooLarge m) q.tokens_of r)
-  one_refusal bytes (refusals.NameTooLong m) (refusals.BadByte n) r s = absurd (let e : lexical.NameTooLong m ≡ lexical.BadByte n = one_break bytes (lexical.NameTooLong m) (lexical.BadByte n) r s in cc)
-  one_refusal bytes (refusals.NameTooLong m) (refusals.NumberTooLarge n) r s = absurd (let e : lexical.NameTooLong m ≡ lexical.NumberTooLarge n = one_break bytes (lexical.NameTooLong m) (lexical.NumberTooLarge n) r s in cc)
-  one_refusal bytes (refusals.NameTooLong m) (refusals.NameTooLong n) r s = same_long m n (one_break bytes (lexical.NameTooLong m) (lexical.NameTooLong n) r s)
-  one_refusal bytes (refusals.NameTooLong m) (refusals.Syntax n) r (us, of, s) = absurd (lexed bytes us (lexical.NameTooLong m) of r)
-  one_refusal bytes (refusals.NameTooLong m) (refusals.TooDeep n) r (us, of, s) = absurd (lexed bytes us (lexical.NameTooLong m) of r)
-  one_refusal bytes (refusals.NameTooLong m) (refusals.Bad n g) r (us, es, q, s) = absurd (lexed bytes us (lexical.NameTooLong m) q.tokens_of r)
-  one_refusal bytes (refusals.Syntax m) (refusals.BadByte n) (ts, of, r) s = absurd (lexed bytes ts (lexical.BadByte n) of s)
-  one_refusal bytes (refusals.Syntax m) (refusals.NumberTooLarge n) (ts, of, r) s = absurd (lexed bytes ts (lexical.NumberTooLarge n) of s)
-  one_refusal bytes (refusals.Syntax m) (refusals.NameTooLong n) (ts, of, r) s = absurd (lexed bytes ts (lexical.NameTooLong n) of s)
+  one_refusal bytes (refusals.Lex m) (refusals.Lex n) r s = ap refusals.Lex (one_break bytes m n r s)
+  one_refusal bytes (refusals.Lex m) (refusals.Syntax n) r (us, of, s) = absurd (lexed bytes us m of r)
+  one_refusal bytes (refusals.Lex m) (refusals.TooDeep n) r (us, of, s) = absurd (lexed bytes us m of r)
+  one_refusal bytes (refusals.Lex m) (refusals.Bad n g) r (us, es, q, s) = absurd (lexed bytes us m q.tokens_of r)
+  one_refusal bytes (refusals.Syntax m) (refusals.Lex n) (ts, of, r) s = absurd (lexed bytes ts n of s)
   one_refusal bytes (refusals.Syntax m) (refusals.Syntax n) r s = same_syntax m n (one_ungrammatical bytes m n Syntax Syntax r s).0
   one_refusal bytes (refusals.Syntax m) (refusals.TooDeep n) r s = absurd (let e : Syntax ≡ TooDeep = (one_ungrammatical bytes m n Syntax TooDeep r s).1 in cc)
   one_refusal bytes (refusals.Syntax m) (refusals.Bad n g) r (us, es, q, s) = absurd (declares_apart bytes us es m Syntax q r)
-  one_refusal bytes (refusals.TooDeep m) (refusals.BadByte n) (ts, of, r) s = absurd (lexed bytes ts (lexical.BadByte n) of s)
-  one_refusal bytes (refusals.TooDeep m) (refusals.NumberTooLarge n) (ts, of, r) s = absurd (lexed bytes ts (lexical.NumberTooLarge n) of s)
-  one_refusal bytes (refusals.TooDeep m) (refusals.NameTooLong n) (ts, of, r) s = absurd (lexed bytes ts (lexical.NameTooLong n) of s)
+  one_refusal bytes (refusals.TooDeep m) (refusals.Lex n) (ts, of, r) s = absurd (lexed bytes ts n of s)
   one_refusal bytes (refusals.TooDeep m) (refusals.Syntax n) r s = absurd (let e : TooDeep ≡ Syntax = (one_ungrammatical bytes m n TooDeep Syntax r s).1 in cc)
   one_refusal bytes (refusals.TooDeep m) (refusals.TooDeep n) r s = same_deep m n (one_ungrammatical bytes m n TooDeep TooDeep r s).0
   one_refusal bytes (refusals.TooDeep m) (refusals.Bad n g) r (us, es, q, s) = absurd (declares_apart bytes us es m TooDeep q r)
-  one_refusal bytes (refusals.Bad m f) (refusals.BadByte n) (ts, ds, p, r) s = absurd (lexed bytes ts (lexical.BadByte n) p.tokens_of s)
-  one_refusal bytes (refusals.Bad m f) (refusals.NumberTooLarge n) (ts, ds, p, r) s = absurd (lexed bytes ts (lexical.NumberTooLarge n) p.tokens_of s)
-  one_refusal bytes (refusals.Bad m f) (refusals.NameTooLong n) (ts, ds, p, r) s = absurd (lexed bytes ts (lexical.NameTooLong n) p.tokens_of s)
+  one_refusal bytes (refusals.Bad m f) (refusals.Lex n) (ts, ds, p, r) s = absurd (lexed bytes ts n p.tokens_of s)
   one_refusal bytes (refusals.Bad m f) (refusals.Syntax n) (ts, ds, p, r) s = absurd (declares_apart bytes ts ds n Syntax p s)
   one_refusal bytes (refusals.Bad m f) (refusals.TooDeep n) (ts, ds, p, r) s = absurd (declares_apart bytes ts ds n TooDeep p s)
   one_refusal bytes (refusals.Bad m f) (refusals.Bad n g) (ts, ds, p, r) (us, es, q, s) =

@@ -34,9 +34,9 @@ IsRefusal bytes Memory = Unit {0}
 
 -- the refusal that a refusal of the tokens makes
 abbrev pub IsLexical : LexRefusal → ReaderRefusal → Type 0
-IsLexical (lexical.BadByte offset) made = made ≡ Refused (refusals.BadByte offset)
-IsLexical (lexical.NumberTooLarge offset) made = made ≡ Refused (refusals.NumberTooLarge offset)
-IsLexical (lexical.NameTooLong offset) made = made ≡ Refused (refusals.NameTooLong offset)
+IsLexical (lexical.BadByte offset) made = made ≡ Refused (refusals.Lex (lexical.BadByte offset))
+IsLexical (lexical.NumberTooLarge offset) made = made ≡ Refused (refusals.Lex (lexical.NumberTooLarge offset))
+IsLexical (lexical.NameTooLong offset) made = made ≡ Refused (refusals.Lex (lexical.NameTooLong offset))
 IsLexical lexical.Memory made = made ≡ Memory
 
 -- the refusal that a refusal of the declarations makes

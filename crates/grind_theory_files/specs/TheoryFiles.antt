@@ -2,7 +2,6 @@
 use Rattle.std.specs.Prelude.{◌≡◌, ℕ, ◌<◌, ◌≤◌, List, length, Option, IfSome}
 use Rattle.grind_outside.specs.Outside.{CountsFault}
 use Rattle.grind_tokens.specs.declared.tokens.Token.{Token}
-use Rattle.grind_tokens.specs.declared.tokens.LexRefusal.TheVariants as lexical
 use Rattle.grind_tokens.specs.Tokens.{TokensOf, Breaks}
 use Rattle.grind_grammar.specs.Lexemes.{lexemes}
 use Rattle.grind_grammar.specs.Terms.{Declaration}
@@ -38,9 +37,7 @@ IsUngrammatical bytes number fault =
 
 -- why the bytes are no theory: the first fault of the tokens, else of the grammar, else of the declarations
 abbrev pub IsRefusedFor : List ℕ → Refusal → Type 0
-IsRefusedFor bytes (refusals.BadByte offset) = Breaks bytes (lexical.BadByte offset)
-IsRefusedFor bytes (refusals.NumberTooLarge offset) = Breaks bytes (lexical.NumberTooLarge offset)
-IsRefusedFor bytes (refusals.NameTooLong offset) = Breaks bytes (lexical.NameTooLong offset)
+IsRefusedFor bytes (refusals.Lex refusal) = Breaks bytes refusal
 IsRefusedFor bytes (refusals.Syntax decl) = IsUngrammatical bytes decl Syntax
 IsRefusedFor bytes (refusals.TooDeep decl) = IsUngrammatical bytes decl TooDeep
 IsRefusedFor bytes (refusals.Bad decl fault) =

@@ -85,14 +85,8 @@ fn lexical(refusal: LexRefusal) -> ReaderRefusal
     ensures { IsLexical refusal result }
 {
     match refusal {
-        LexRefusal::BadByte { offset } => ReaderRefusal::Refused(Refusal::BadByte { offset }),
-        LexRefusal::NumberTooLarge { offset } => {
-            ReaderRefusal::Refused(Refusal::NumberTooLarge { offset })
-        }
-        LexRefusal::NameTooLong { offset } => {
-            ReaderRefusal::Refused(Refusal::NameTooLong { offset })
-        }
         LexRefusal::Memory => ReaderRefusal::Memory,
+        fault => ReaderRefusal::Refused(Refusal::Lex(fault)),
     }
 }
 
