@@ -25,6 +25,7 @@ FILES = {
     "grind_normal_forms": ["Pairs", "Reduction", "Gathering", "FinalFactors", "Laws"],
     "grind_differences": ["Bounds", "Differences", "Equations", "Held", "Laws"],
     "grind_classes": ["Classes", "Trail"],
+    "grind_class_joins": ["Joins"],
     "grind_congruence": ["Derivable", "Congruence", "Edges", "Marks", "Table", "Changes", "Forest", "Exact", "Asserted"],
     "grind_needed_edges": ["Needed", "Numbered", "Plans"],
     "grind_schemes": ["Labels", "Goals", "Limits", "Schemes", "Theorems", "Instances", "InstanceNodes", "Laws"],

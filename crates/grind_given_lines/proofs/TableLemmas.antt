@@ -1,5 +1,5 @@
 -- The table of one free formula: where the formula that it negates is known, so is the formula, and the other way round.
-use Rattle.std.specs.Prelude.{ℕ, ◌≡◌, zero, suc, ◌+◌, ◌<◌, Bool, true, false, not, List, [], ◌∷◌, ◌++◌, Option, Some, None, IsSome, All, length, map, take, slice_get, refl}
+use Rattle.std.specs.Prelude.{ℕ, ◌≡◌, zero, suc, ◌+◌, ◌<◌, Bool, true, false, not, List, [], ◌∷◌, ◌++◌, Option, Some, None, IsSome, All, length, map, take, slice_get, if◌then◌else◌, refl}
 use Rattle.std.specs.Option.{option_map, option_or}
 use Rattle.std.proofs.Common.{arith, sym, ap, ◌∙◌, subst, inl, inr, length-append}
 use Rattle.std.proofs.lemmas.Bool.{ne_eqb}
