@@ -1,8 +1,1 @@
-pub mod LawLemmas
-pub mod FactLemmas
-pub mod LineLemmas
-pub mod TableLemmas
-pub mod BuildingLemmas
-pub mod GivenLemmas
-pub mod ReasonLemmas
-pub mod DecidingLemmas
+pub mod RefutationLemmas

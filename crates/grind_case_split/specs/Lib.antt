@@ -1,6 +1,2 @@
 pub mod Congruences
 pub mod Laws
-pub mod Facts
-pub mod Writing
-pub mod Building
-pub mod Given

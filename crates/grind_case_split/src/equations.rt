@@ -1,53 +1,22 @@
-//! The equations that a goal gives.
-ghost use Rattle.std.specs.Prelude.{◌≡◌, ◌<◌, ℕ, All, IfOk, length};
+//! The equations that a goal gives, written down.
+ghost use Rattle.std.specs.Prelude.{ℕ, ◌<◌, IfOk, length};
 ghost use Rattle.grind_classes.specs.Classes.{IsActive};
 ghost use Rattle.grind_congruence.specs.Congruence.{Fits};
 ghost use Rattle.grind_proof_writer.specs.Lines.{IsReady};
 ghost use Rattle.grind_explain.specs.Explained.{HasReasons};
-ghost use Rattle.grind_case_split.specs.Building.{HasEnds, IsClosure};
-ghost use Rattle.grind_case_split.specs.Given.{IsOfSource, IsLedger, CoversAll};
+ghost use Rattle.grind_goal_equations.specs.Building.{IsClosure};
+ghost use Rattle.grind_goal_equations.specs.Given.{CoversAll};
+ghost use Rattle.grind_given_lines.specs.Written.{IsLedger};
 
-use crate::building::closure_of;
-use crate::given::given_by;
-use crate::reasons::{Written, write_down};
 use grind_congruence::{Closure, Edge};
-use grind_explain::Why;
+use grind_given_lines::{Written, write_down};
+use grind_goal_equations::{Known, known_of};
+use grind_needed_edges::Why;
 use grind_outside::{List, Memory};
 use grind_proof_kernel::Proof;
 use grind_proof_writer::Writer;
 use grind_schemes::{Goal, Lemmas};
 use std::alloc::Global;
-
-// The equations that a goal gives, as edges that have the numbers of their sources, and what they come to. Nothing is
-// written yet.
-#[derive(Drop)]
-pub(crate) struct Known {
-    // The equations.
-    pub(crate) given: List<Edge>,
-    // Their closure under congruence, over all terms of the goal.
-    pub(crate) closure: Closure,
-}
-
-// The equations that a goal gives, and their closure.
-pub(crate) fn known_of(alloc: Global, goal: &Goal) -> Result<Known, Memory>
-    ensures sources { IfOk result (λ it. All (IsOfSource goal.now) it.given) }
-    ensures covers { IfOk result (λ it. CoversAll goal.now it.given) }
-    ensures closure { IfOk result (λ it. IsClosure goal.now.terms.nodes it.given it.closure) }
-    ensures active { IfOk result (λ it. (n : ℕ) → n < length goal.now.terms.nodes → IsActive it.closure.lists n) }
-{
-    let given = given_by(alloc, goal)?;
-    let closure = closed(alloc, goal, &given)?;
-    Ok(Known { given, closure })
-}
-
-// The closure of given equations over all terms of the goal.
-fn closed(alloc: Global, goal: &Goal, given: &List<Edge>) -> Result<Closure, Memory>
-    requires { All (HasEnds goal.now.terms.nodes) given.now }
-    ensures { IfOk result (λ closure. IsClosure goal.now.terms.nodes given.now closure) }
-{
-    let closure = closure_of(alloc, goal.terms(), given.as_slice())?;
-    Ok(closure)
-}
 
 /// What the equations that a goal gives come to.
 #[derive(Drop)]

@@ -2,17 +2,10 @@
 //! different, the goal is closed, with a typed proof, exactly where a pair that is denied follows from those that are given.
 #![tactic(auto)]
 
-mod building;
 mod closing;
 pub mod equations;
-mod fact;
-mod fact_lines;
-mod given;
-pub mod laws;
 pub mod plain;
-mod reasons;
-mod refuted;
 
 pub use equations::{Equations, equations_of};
-pub use laws::ground_goals;
+pub use grind_goal_equations::ground_goals;
 pub use plain::{Plain, solve_goal};

@@ -1,14 +1,13 @@
 //! The answer to a goal by congruence.
 ghost use Rattle.std.specs.Prelude.{◌≡◌, All, IfOk};
-ghost use Rattle.grind_case_split.specs.Congruences.{IsRightFor, IsDecided, IsProofOf};
-ghost use Rattle.grind_case_split.specs.Building.{IsClosure};
-ghost use Rattle.grind_case_split.specs.Given.{IsOfSource, IsRefuted};
+ghost use Rattle.grind_case_split.specs.Congruences.{IsRightFor, IsDecided};
+ghost use Rattle.grind_given_lines.specs.Writing.{IsProofOf};
+ghost use Rattle.grind_goal_equations.specs.Building.{IsClosure};
+ghost use Rattle.grind_goal_equations.specs.Given.{IsOfSource, IsRefuted};
 
-use crate::closing::{by_hypothesis, place_of_conclusion, refute};
-use crate::equations::{Known, known_of};
-use crate::fact::Fact;
-use crate::reasons::{Written, write_down};
-use crate::refuted::first_refuted;
+use crate::closing::refute;
+use grind_given_lines::{Written, by_hypothesis, place_of_conclusion, write_down};
+use grind_goal_equations::{Fact, Known, first_refuted, known_of};
 use grind_outside::Memory;
 use grind_proof_kernel::Proof;
 use grind_proof_writer::Writer;

@@ -10,8 +10,10 @@ use Rattle.grind_claims.specs.declared.proof.Proof.{Proof}
 use Rattle.grind_congruence.specs.declared.edge.Edge.{Edge}
 use Rattle.grind_congruence.specs.Edges.{Passes, Leads}
 use Rattle.grind_proof_writer.specs.Lines.{IsReady, Tells, Appends}
-use Rattle.grind_explain.specs.declared.pairs.Pair.{Pair}
-use Rattle.grind_explain.specs.Deriving.{pair_of, HasNumber, KeepsNumbers, AreLines, Goes, IsKnown, PassesAt, IsOnWay}
+use Rattle.grind_needed_edges.specs.declared.pairs.Pair.{Pair}
+use Rattle.grind_needed_edges.specs.Numbered.{pair_of, HasNumber, KeepsNumbers}
+use Rattle.grind_needed_edges.specs.Needed.{PassesAt}
+use Rattle.grind_explain.specs.Deriving.{AreLines, Goes, IsKnown, IsOnWay}
 use Rattle.grind_proof_writer.proofs.LineLemmas.{Appends-none, Appends-through}
 use Rattle.grind_explain.proofs.NotedLemmas.{Goes-none, Goes-through}
 

@@ -21,16 +21,19 @@ use Rattle.grind_classes.specs.Classes.{IsActive, AreTogether}
 use Rattle.grind_congruence.specs.declared.edge.Edge.{Edge}
 use Rattle.grind_congruence.specs.Congruence.{Congruence, Fits}
 use Rattle.grind_congruence.specs.Edges.{Joins}
-use Rattle.grind_explain.specs.declared.pairs.Pair.{Pair}
-use Rattle.grind_explain.specs.declared.plan.Plan.{Plan}
-use Rattle.grind_explain.specs.declared.why.Why.{Why}
-use Rattle.grind_explain.specs.declared.why.Why.TheVariants as why
+use Rattle.grind_needed_edges.specs.declared.pairs.Pair.{Pair}
+use Rattle.grind_needed_edges.specs.declared.plan.Plan.{Plan}
+use Rattle.grind_needed_edges.specs.declared.why.Why.{Why}
+use Rattle.grind_needed_edges.specs.declared.why.Why.TheVariants as why
 use Rattle.grind_proof_writer.specs.Lines.{IsReady, IsUsable, Tells, Appends}
-use Rattle.grind_explain.specs.Explained.{AreJoinedWithin, IsReason, HasReasons}
-use Rattle.grind_explain.specs.Deriving.{HasNumber, KeepsNumbers, IsNeeded, IsCovered, AreWays, AreLines, Goes, IsKnown, AreKnown, IsGiven, AreTold, AreHalfTold, AreKnownSoFar}
+use Rattle.grind_needed_edges.specs.Needed.{IsGround, AreGrounds, AreJoinedWithin}
+use Rattle.grind_needed_edges.specs.Plans.{IsNeeded, IsCovered, AreWays}
+use Rattle.grind_explain.specs.Explained.{IsReason, HasReasons}
+use Rattle.grind_needed_edges.specs.Numbered.{HasNumber, KeepsNumbers}
+use Rattle.grind_explain.specs.Deriving.{AreLines, Goes, IsKnown, AreKnown, IsGiven, AreTold, AreHalfTold, AreKnownSoFar}
 use Rattle.grind_proof_writer.proofs.LineLemmas.{Appends-none, Appends-through, Tells-stays, IsUsable-tells, claim_at-tells}
 use Rattle.grind_explain.proofs.ChainLemmas.{IsKnown-stays}
-use Rattle.grind_explain.proofs.JoinLemmas.{All-others, zip_others}
+use Rattle.grind_needed_edges.proofs.JoinLemmas.{All-others, zip_others}
 use Rattle.grind_explain.proofs.NotedLemmas.{Goes-none, Goes-through}
 
 -- the same terms, after lines were appended to a proof
@@ -61,6 +64,18 @@ IsGiven-stays lemmas goal old new branch closure whys plan grown h = record {
   covers = λ place. subst (λ (terms : Terms). IsCovered terms.nodes closure.edges whys plan place) (sym grown.terms) (h.covers place);
   ways = h.ways;
 }
+
+-- the grounds of reasons
+ground_of : (proof : Proof) (branch : ℕ) (edges : List Edge) (place : ℕ) (edge : Edge) (reason : Why) → IsReason proof branch edges place edge reason
+    → IsGround proof.terms.nodes edges place edge reason
+ground_of proof branch edges place edge (why.Line number) h = tt
+ground_of proof branch edges place edge why.Congruence h = h
+
+pub AreGrounds-reasons : (proof : Proof) (branch : ℕ) (edges : List Edge) (whys : List Why) (count : ℕ) → HasReasons proof branch edges whys count
+    → AreGrounds proof.terms.nodes edges whys count
+AreGrounds-reasons proof branch edges whys count h place edge below stands =
+    some_and_then (IsReason proof branch edges place edge) (IsGround proof.terms.nodes edges place edge) (slice_get whys edge.why)
+    (λ reason. ground_of proof branch edges place edge reason) (h place edge below stands)
 
 -- more is known where more is noted
 pub AreKnown-stays : (edges : List Edge) (needed : List Bool) (told later : List (Pair × ℕ)) (count : ℕ) → KeepsNumbers told later →
@@ -178,21 +193,6 @@ IsCong-told old new branch edges count a b lefts rights numbers terms joined lef
       say,
     ) in
     (claims, told_by.1, follows)
-
-some_at : {X : Type 0} (P : X → Type 0) (found : Option X) (x : X) → found ≡ Some x → IsSomeAnd found P → P x
-some_at {X = X} P found x is h = subst (λ (o : Option X). IsSomeAnd o P) is h
-
-pub within_of_some : {X : Type 0} (P : X → Type 0) (xs : List X) (i : ℕ) → IsSomeAnd (slice_get xs i) P → i < length xs
-within_of_some P [] i h = absurd h
-within_of_some P (x ∷ xs) zero h = omega arith
-within_of_some P (x ∷ xs) (suc i) h = let below = within_of_some P xs i h in omega arith
-
--- the reason that is read is one
-pub reason_read : (P : Why → Type 0) (whys : List Why) (number : ℕ) (other reason : Why) → get_or whys number other ≡ reason →
-    IsSomeAnd (slice_get whys number) P → P reason
-reason_read P whys number other reason is h =
-    subst P is
-    (some_at P (slice_get whys number) (get_or whys number other) (slice_get-get_or whys number other (within_of_some P whys number h)) h)
 
 -- one more of the first edges is passed
 pub AreKnownSoFar-step : (lemmas : Lemmas) (goal : GoalData) (old now new : Proof) (before told later : List (Pair × ℕ)) (branch : ℕ)

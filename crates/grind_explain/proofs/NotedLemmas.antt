@@ -12,10 +12,11 @@ use Rattle.grind_claims.specs.declared.proof.Proof.{Proof}
 use Rattle.grind_proof_writer.specs.Lines.{Tells, Appends, EndsWith}
 use Rattle.grind_proof_writer.proofs.ListLemmas.{behind_first}
 use Rattle.grind_proof_writer.proofs.LineLemmas.{Tells-stays, Tells-last}
-use Rattle.grind_explain.specs.declared.pairs.Pair.{Pair}
+use Rattle.grind_needed_edges.specs.declared.pairs.Pair.{Pair}
 use Rattle.grind_explain.specs.Explained.{DifferInClaims, IsBrief}
-use Rattle.grind_explain.specs.Deriving.{pair_of, HasNumber, HasNoNumber, IsNoted, AreLines, IsFresh, Goes}
-use Rattle.grind_explain.proofs.PairLemmas.{KeepsNumbers-put, KeepsNumbers-noted, last_entry, entry_cases}
+use Rattle.grind_needed_edges.specs.Numbered.{pair_of, HasNumber, HasNoNumber, IsNoted}
+use Rattle.grind_explain.specs.Deriving.{AreLines, IsFresh, Goes}
+use Rattle.grind_needed_edges.proofs.PairLemmas.{KeepsNumbers-put, KeepsNumbers-noted, last_entry, entry_cases}
 
 -- nothing written
 pub Goes-none : (proof : Proof) (told : List (Pair × ℕ)) → Goes proof told proof told

@@ -4,10 +4,12 @@ ghost use Rattle.grind_claims.specs.declared.claim.Claim.TheVariants.{Same};
 ghost use Rattle.grind_congruence.specs.Edges.{Passes, Leads};
 ghost use Rattle.grind_proof_writer.specs.Lines.{Tells};
 ghost use Rattle.grind_proof_writer.specs.Writing.{CanWrite, Writes, IsTold};
-ghost use Rattle.grind_explain.specs.Deriving.{IsKnown, PassesAt, HasNumber, AreLines, Goes};
+ghost use Rattle.grind_needed_edges.specs.Numbered.{HasNumber};
+ghost use Rattle.grind_needed_edges.specs.Needed.{PassesAt};
+ghost use Rattle.grind_explain.specs.Deriving.{IsKnown, AreLines, Goes};
 
-use crate::pairs::Pairs;
 use grind_congruence::Edge;
+use grind_needed_edges::Pairs;
 use grind_outside::Memory;
 use grind_proof_kernel::Proof;
 use grind_proof_writer::{Equality, Writer};

@@ -5,14 +5,13 @@ ghost use Rattle.grind_classes.specs.Classes.{AreTogether};
 ghost use Rattle.grind_congruence.specs.Congruence.{Fits};
 ghost use Rattle.grind_proof_writer.specs.Lines.{IsReady, Appends, EndsWith};
 ghost use Rattle.grind_proof_writer.specs.Writing.{CanWrite, Writes, IsTold};
-ghost use Rattle.grind_explain.specs.Explained.{IsFewest, HasReasons, IsBrief};
+ghost use Rattle.grind_needed_edges.specs.Needed.{IsFewest};
+ghost use Rattle.grind_explain.specs.Explained.{HasReasons, IsBrief};
 ghost use Rattle.grind_explain.specs.Deriving.{IsLast};
 
 use crate::known::Course;
-use crate::pairs::Pairs;
-use crate::plan::Planner;
-use crate::why::Why;
 use grind_congruence::Closure;
+use grind_needed_edges::{Pairs, Planner, Why};
 use grind_outside::{List, Memory};
 use grind_proof_kernel::Proof;
 use grind_proof_writer::{Equality, Writer};

@@ -4,9 +4,5 @@
 mod chain;
 pub mod explanation;
 mod known;
-mod pairs;
-mod plan;
-pub mod why;
 
 pub use explanation::explain;
-pub use why::Why;

@@ -5,9 +5,10 @@ use Rattle.grind_claims.specs.declared.proof.Proof.{Proof}
 use Rattle.grind_claims.specs.declared.claim.Claim.TheVariants.{Same, Differ}
 use Rattle.grind_proof_writer.specs.Lines.{Tells}
 use Rattle.grind_proof_writer.proofs.LineLemmas.{Tells-stays, Tells-last, IsUsable-tells, claim_at-tells}
-use Rattle.grind_case_split.specs.Facts.{sides_claim, equates}
-use Rattle.grind_case_split.proofs.LineLemmas.{root_can_write, root_stays}
-use Rattle.grind_case_split.proofs.DecidingLemmas.{split_clash}
+use Rattle.grind_given_lines.specs.Writing.{sides_claim}
+use Rattle.grind_goal_equations.specs.Facts.{equates}
+use Rattle.grind_given_lines.proofs.LineLemmas.{root_can_write, root_stays}
+use Rattle.grind_case_split.proofs.RefutationLemmas.{split_clash}
 use Rattle.grind_case_split.proofs.closing.refute.Goals as goal
 
 pub explain-requires-clause-reasons : goal.explain-requires-clause-reasons

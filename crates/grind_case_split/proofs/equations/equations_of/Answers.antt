@@ -2,8 +2,8 @@ use Rattle.std.specs.Prelude.{List}
 use Rattle.std.proofs.Common.{sym, subst}
 use Rattle.grind_term_graph.specs.declared.node.Node.{Node}
 use Rattle.grind_congruence.specs.Congruence.{Fits}
-use Rattle.grind_case_split.proofs.LineLemmas.{rooted_terms, rooted_ready}
-use Rattle.grind_case_split.proofs.DecidingLemmas.{reasons}
+use Rattle.grind_given_lines.proofs.LineLemmas.{rooted_terms, rooted_ready}
+use Rattle.grind_case_split.proofs.RefutationLemmas.{reasons}
 use Rattle.grind_case_split.proofs.equations.equations_of.Goals as goal
 
 pub returns-clause-fits : goal.returns-clause-fits

@@ -3,8 +3,8 @@ use Rattle.std.proofs.Common.{ap, subst, rules}
 use Rattle.grind_term_graph.specs.Terms.{Terms}
 use Rattle.grind_term_graph.specs.Shape.{IsTable}
 use Rattle.grind_schemes.specs.Goals.{GoalData}
-use Rattle.grind_case_split.specs.Congruences.{CongruenceEntails}
-use Rattle.grind_case_split.proofs.DecidingLemmas.{none_refuted, refuted_entails}
+use Rattle.grind_goal_equations.specs.Congruences.{CongruenceEntails}
+use Rattle.grind_goal_equations.proofs.DecidingLemmas.{none_refuted, refuted_entails}
 use Rattle.grind_case_split.proofs.plain.by_congruence.Goals as goal
 
 pub returns-in_default : goal.returns-in_default

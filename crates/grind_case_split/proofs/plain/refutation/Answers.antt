@@ -1,7 +1,7 @@
 use Rattle.std.specs.Prelude.{ℕ}
 use Rattle.std.proofs.Common.{sym, subst}
 use Rattle.grind_explain.specs.Explained.{HasReasons}
-use Rattle.grind_case_split.proofs.DecidingLemmas.{reasons}
+use Rattle.grind_case_split.proofs.RefutationLemmas.{reasons}
 use Rattle.grind_case_split.proofs.plain.refutation.Goals as goal
 
 pub refute-requires-clause-fits : goal.refute-requires-clause-fits

@@ -1,6 +1,6 @@
 use Rattle.std.specs.Prelude.{Contains}
 use Rattle.std.proofs.Common.{inl}
-use Rattle.grind_case_split.proofs.FactLemmas.{stands_in}
+use Rattle.grind_goal_equations.proofs.FactLemmas.{stands_in}
 use Rattle.grind_case_split.proofs.plain.solve_goal.Goals as goal
 
 pub returns-in-Some : goal.returns-in-Some

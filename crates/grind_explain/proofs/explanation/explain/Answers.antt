@@ -1,9 +1,8 @@
 use Rattle.std.specs.Prelude.{List, length}
 use Rattle.std.proofs.Common.{sym, subst}
-use Rattle.grind_explain.specs.declared.why.Why.{Why}
-use Rattle.grind_explain.specs.Deriving.{AreGrounds}
-use Rattle.grind_explain.proofs.PlanLemmas.{AreGrounds-reasons}
-use Rattle.grind_explain.proofs.KnownLemmas.{IsGiven-start, within_appends}
+use Rattle.grind_needed_edges.specs.declared.why.Why.{Why}
+use Rattle.grind_needed_edges.specs.Needed.{AreGrounds}
+use Rattle.grind_explain.proofs.KnownLemmas.{IsGiven-start, within_appends, AreGrounds-reasons}
 use Rattle.grind_proof_writer.proofs.LineLemmas.{Appends-through}
 use Rattle.grind_explain.proofs.NotedLemmas.{IsBrief-ends}
 use Rattle.grind_explain.proofs.explanation.explain.Goals as goal

@@ -1,6 +1,6 @@
 use Rattle.grind_classes.specs.Classes.{IsActive}
 use Rattle.grind_proof_writer.proofs.LineLemmas.{Appends-through}
-use Rattle.grind_explain.proofs.JoinLemmas.{All-first}
+use Rattle.grind_needed_edges.proofs.JoinLemmas.{All-first}
 use Rattle.grind_explain.proofs.KnownLemmas.{zip_first, AreHalfTold-start, AreHalfTold-step, AreHalfTold-end}
 use Rattle.grind_explain.proofs.known.Course.lines_of_args.Goals as goal
 

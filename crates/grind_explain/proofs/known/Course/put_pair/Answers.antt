@@ -1,5 +1,5 @@
 use Rattle.grind_explain.proofs.NotedLemmas.{Goes-none, Goes-line, AreLines-line}
-use Rattle.grind_explain.proofs.PairLemmas.{HasNumber-put}
+use Rattle.grind_needed_edges.proofs.PairLemmas.{HasNumber-put}
 use Rattle.grind_explain.proofs.known.Course.put_pair.Goals as goal
 
 pub returns-in-Some-clause-goes : goal.returns-in-Some-clause-goes

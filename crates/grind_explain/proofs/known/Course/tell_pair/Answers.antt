@@ -4,7 +4,7 @@ use Rattle.std.proofs.Common.{sym, ◌∙◌, subst}
 use Rattle.grind_classes.specs.Classes.{IsActive}
 use Rattle.grind_congruence.specs.Edges.{Joins}
 use Rattle.grind_proof_writer.proofs.LineLemmas.{Appends-through}
-use Rattle.grind_explain.specs.Deriving.{HasNumber}
+use Rattle.grind_needed_edges.specs.Numbered.{HasNumber}
 use Rattle.grind_explain.proofs.NotedLemmas.{Goes-through}
 use Rattle.grind_explain.proofs.KnownLemmas.{AreTold-usable, IsCong-told}
 use Rattle.grind_explain.proofs.known.Course.tell_pair.Goals as goal

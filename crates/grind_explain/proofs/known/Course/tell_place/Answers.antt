@@ -1,12 +1,12 @@
 use Rattle.std.specs.Prelude.{◌≡◌, Bool, List, true, false, slice_index_or}
 use Rattle.std.proofs.Common.{arith, sym, ap, ◌∙◌}
-use Rattle.grind_explain.specs.declared.why.Why.TheVariants as why
+use Rattle.grind_needed_edges.specs.declared.why.Why.TheVariants as why
 use Rattle.grind_explain.specs.Explained.{IsReason}
-use Rattle.grind_explain.proofs.JoinLemmas.{ends_active}
-use Rattle.grind_explain.proofs.PlanLemmas.{edge_read}
-use Rattle.grind_explain.proofs.PairLemmas.{HasNumber-noted}
+use Rattle.grind_needed_edges.proofs.JoinLemmas.{ends_active}
+use Rattle.grind_needed_edges.proofs.PairLemmas.{HasNumber-noted}
 use Rattle.grind_explain.proofs.NotedLemmas.{Goes-noted, AreLines-noted}
-use Rattle.grind_explain.proofs.KnownLemmas.{within_of_some, reason_read, reason_stands, IsKnown-read}
+use Rattle.grind_needed_edges.proofs.PlanLemmas.{edge_read, within_of_some, reason_read}
+use Rattle.grind_explain.proofs.KnownLemmas.{reason_stands, IsKnown-read}
 use Rattle.grind_explain.proofs.known.Course.tell_place.Goals as goal
 
 pub bounds : goal.bounds

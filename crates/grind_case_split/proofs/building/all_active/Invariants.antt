@@ -1,5 +1,0 @@
-use Rattle.grind_case_split.specs.Building.{IsActiveBelow}
-use Rattle.grind_case_split.proofs.building.all_active.Given as goal
-
-abbrev pub invariant-loop-number : goal.invariant-loop-number
-invariant-loop-number l = IsActiveBelow l.fn.terms.nodes l.closure l.number

@@ -1,7 +1,0 @@
-use Rattle.grind_case_split.proofs.BuildingLemmas.{IsClosure-from}
-use Rattle.grind_case_split.proofs.building.closure_of.Goals as goal
-
-pub returns : goal.returns
-returns c =
-    IsClosure-from c.args.terms.now.nodes c.args.given.now c.assert_all.new.closure c.settle.new.closure c.in_ok-assert_all.ensures.asserted
-    c.in_ok-settle.ensures.built c.in_ok-settle.ensures.keeps c.in_ok-settle.ensures.rest

@@ -1,6 +1,0 @@
-use Rattle.std.specs.Prelude.{All}
-use Rattle.grind_case_split.specs.Given.{IsOfSource, CoversBelow}
-use Rattle.grind_case_split.proofs.given.given_by.Given as goal
-
-abbrev pub invariant-loop-k : goal.invariant-loop-k
-invariant-loop-k l = record { sources : All (IsOfSource l.fn.goal) l.given; covers : CoversBelow l.fn.goal l.given l.k }

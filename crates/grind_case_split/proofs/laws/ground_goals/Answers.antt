@@ -1,5 +1,0 @@
-use Rattle.grind_case_split.proofs.LawLemmas.{ground_goals_decided}
-use Rattle.grind_case_split.proofs.laws.ground_goals.Goals as goal
-
-pub returns : goal.returns
-returns c = ground_goals_decided

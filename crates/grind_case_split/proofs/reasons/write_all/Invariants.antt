@@ -1,6 +1,0 @@
-use Rattle.grind_case_split.specs.Writing.{WritesRoot}
-use Rattle.grind_case_split.specs.Given.{AreWritten}
-use Rattle.grind_case_split.proofs.reasons.write_all.Given as goal
-
-abbrev pub invariant-loop-k : goal.invariant-loop-k
-invariant-loop-k l = record { root : WritesRoot l.fn.writer l.proof; written : AreWritten l.fn.writer.goal.now l.proof l.whys l.k }

@@ -1,5 +1,0 @@
-use Rattle.grind_case_split.specs.Given.{HoldsOutBelow}
-use Rattle.grind_case_split.proofs.refuted.first_refuted.Given as goal
-
-abbrev pub invariant-loop-k : goal.invariant-loop-k
-invariant-loop-k l = HoldsOutBelow l.fn.goal l.fn.closure l.k

@@ -1,5 +1,0 @@
-use Rattle.std.specs.Prelude.{◌≡◌, length}
-use Rattle.grind_explain.proofs.plan.none_needed.Given as goal
-
-abbrev pub invariant-loop : goal.invariant-loop
-invariant-loop l = length l.needed ≡ l.counter

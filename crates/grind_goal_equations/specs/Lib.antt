@@ -1,0 +1,5 @@
+pub mod Congruences
+pub mod Laws
+pub mod Facts
+pub mod Building
+pub mod Given

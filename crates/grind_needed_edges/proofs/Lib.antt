@@ -1,0 +1,4 @@
+pub mod BoundLemmas
+pub mod PairLemmas
+pub mod JoinLemmas
+pub mod PlanLemmas

@@ -1,0 +1,4 @@
+pub mod Numbered
+pub mod Needed
+pub mod Plans
+pub mod Planning
