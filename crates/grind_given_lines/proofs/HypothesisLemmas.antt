@@ -17,4 +17,3 @@ opposed_clash nodes lines first second n one other = (
   (one, (other, tt)),
   (refl, inl (Holds n, Fails n, inl refl, inl (n, refl, refl))),
 )
-

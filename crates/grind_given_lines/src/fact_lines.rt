@@ -171,12 +171,7 @@ pub fn fact_line(writer: &Writer, proof: &mut Proof, fact: &Fact) -> Result<u32,
 /// # Errors
 ///
 /// `Memory`.
-pub fn clash_line(
-    writer: &Writer,
-    proof: &mut Proof,
-    one: u32,
-    other: u32,
-) -> Result<(), Memory>
+pub fn clash_line(writer: &Writer, proof: &mut Proof, one: u32, other: u32) -> Result<(), Memory>
     requires root { WritesRoot writer.now proof.old }
     requires one { IsUsable proof.old writer.now.branch one }
     requires other { IsUsable proof.old writer.now.branch other }
