@@ -6,12 +6,12 @@
 
 mod scenes;
 
-use grind_cli::reader::theory_of;
 use grind_outside::{FileShelf, Memory, Shelf};
 use grind_scenes::{all_alone, are_marked_formulas, first_matches, next_step, zeros};
 use grind_schemes::Lemmas;
 use grind_term_graph::{NodeId, TermTable};
 use grind_theory::Theory;
+use grind_theory_files::theory_of;
 use grind_truth_prop::TruthStep;
 use scenes::{classes_of, known_of};
 use std::alloc::Global;

@@ -16,12 +16,12 @@ mod tables;
 mod trees;
 
 use chains::chain;
-use grind_cli::reader::theory_of;
 use grind_outside::{FileShelf, List, Memory, Shelf};
 use grind_par_check::check_parallel;
 use grind_proof_kernel::{Proof, Verdict, check};
 use grind_schemes::{Goal, Lemmas};
 use grind_theory::Theory;
+use grind_theory_files::theory_of;
 use pairs::{form_pairs, poly_pairs};
 use readings::{are_nonzero, basis_of, left_side, parts_of, rest_of, sides_of, terms_of};
 use std::alloc::Global;
@@ -185,7 +185,7 @@ fn checked<R: Threads + Sync + Clock + AllocGlobal>(
     };
     let proof = made(alloc, goal, is_tree, size)?;
     let start = Instant::now(rt);
-    let verdict = judged(rt, alloc, &theory.lemmas, goal, &proof, jobs)?;
+    let verdict = judged(rt, &theory.lemmas, goal, &proof, jobs)?;
     let micros = since(rt, start);
     let count = match verdict {
         Verdict::Typed => Some(1),
@@ -245,9 +245,8 @@ fn since(rt: &impl Clock, start: std::io::Result<Instant>) -> u128 {
 }
 
 /// What the checker says of the proof, with so many jobs.
-fn judged<R: Threads + Sync>(
+fn judged<R: Threads + Sync + AllocGlobal>(
     rt: &R,
-    alloc: Global,
     lemmas: &Lemmas,
     goal: &Goal,
     proof: &Proof,
@@ -255,6 +254,7 @@ fn judged<R: Threads + Sync>(
 ) -> Result<Verdict, Memory>
     requires { HasTerms goal.now proof.now }
 {
+    let alloc = rt.alloc();
     if jobs == 0 {
         return check(alloc, lemmas, goal, proof);
     }

@@ -1,6 +1,6 @@
 //! The words of a command line, and what is answered where there are none.
-use grind_cli::program::{NoteSink, ReportSink, answer, words_of};
-use grind_cli::status::Status;
+use grind_cli::program::answer;
+use grind_command::{NoteSink, ReportSink, Status, words_of};
 use grind_outside::{List, MemoryShelf, SteadySink};
 use std::env::FillError;
 use std::io::{self, ErrorKind};

@@ -6,7 +6,6 @@ ghost use Rattle.grind_theory.specs.Theories.{AreDeclared};
 use grind_cases::case::Case;
 use grind_cases::texts::split;
 use grind_cases::unfollowed::Unfollowed;
-use grind_cli::reader::theory_of;
 use grind_line_reader::made_proof::proof_of;
 use grind_line_reader::spelled::{claim_from, line_of};
 use grind_outside::List;
@@ -14,6 +13,7 @@ use grind_par_check::check_parallel;
 use grind_proof_kernel::{Branch, Line, Proof, Verdict, check, check_line};
 use grind_schemes::Goal;
 use grind_theory::Theory;
+use grind_theory_files::theory_of;
 use std::alloc::Global;
 use std::thread::Threads;
 

@@ -5,7 +5,7 @@ use crate::case::Case;
 use crate::texts::{put, show_part};
 use crate::unfollowed::Unfollowed;
 use grind_cli::run::run;
-use grind_cli::status::Status;
+use grind_command::Status;
 use grind_outside::{List, Memory, MemoryShelf, MemorySink, NamedFile};
 use std::alloc::Global;
 use std::thread::Threads;

@@ -1,6 +1,6 @@
 //! Why a directive of a case was not followed.
-use grind_cli::reader::ReaderRefusal;
 use grind_outside::Memory;
+use grind_theory_files::ReaderRefusal;
 use std::alloc::AllocError;
 
 /// Why a directive was not followed.

@@ -1,9 +1,0 @@
-pub mod Answers
-pub mod Commands
-pub mod Endings
-pub mod Notes
-pub mod Outcomes
-pub mod Reading
-pub mod Statuses
-pub mod TheoryFiles
-pub mod Written

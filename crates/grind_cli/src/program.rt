@@ -1,95 +1,17 @@
-//! What `main` does, in small calls: the words of the command line, the streams, and the status of the process.
-ghost use Rattle.std.specs.Prelude.{◌≡◌, ◌≢◌, ◌↔◌, ℕ, List, [], IfOk, IfErr, OnErr, drop, map};
+//! The top call for a program: it takes the words as the program was given them.
+ghost use Rattle.std.specs.Prelude.{◌≡◌, ◌≢◌, ◌↔◌, ℕ, List, [], IfOk, IfErr, OnErr, map};
 ghost use Rattle.std.specs.IoError.{error_kind};
-ghost use Rattle.std.specs.Process.{exit_status};
 ghost use Rattle.std.specs.String.{string_bytes};
-ghost use Rattle.std.specs.Vec.Iter.{into_iter_items};
-ghost use Rattle.grind_cli.specs.Commands.{IsSolve};
-ghost use Rattle.grind_cli.specs.Endings.{Ends, Explains};
-ghost use Rattle.grind_cli.specs.Notes.{Notes};
-ghost use Rattle.grind_cli.specs.Statuses.{note_of, number_of, status_of as ending_status};
+ghost use Rattle.grind_command.specs.Commands.{IsSolve};
+ghost use Rattle.grind_command.specs.Notes.{Notes};
+ghost use Rattle.grind_command.specs.Statuses.{note_of, status_of as ending_status};
+ghost use Rattle.grind_answers.specs.Endings.{Ends, Explains};
 
-use crate::ending::{Ending, status_of};
-use crate::notes::tell;
 use crate::run::run;
-use crate::status::Status;
-use grind_outside::{Shelf, Sink, StreamSink};
-use std::alloc::Global;
-use std::env::{self, Args};
-use std::io::{self, ErrorKind, Stderr, Stdout};
-use std::process::ExitCode;
-use std::rt::Env;
+use grind_command::{Ending, NoteSink, ReportSink, Status, refuse_words};
+use grind_outside::{Shelf, Sink};
+use std::io::{self, ErrorKind};
 use std::thread::Threads;
-
-/// Where the report goes.
-#[derive(Drop)]
-pub struct ReportSink<K: Sink> {
-    pub sink: K,
-}
-
-/// Where the line of a refusal goes.
-#[derive(Drop)]
-pub struct NoteSink<E: Sink> {
-    pub sink: E,
-}
-
-/// Standard output, for the report.
-pub fn report_to(stream: Stdout) -> ReportSink<StreamSink<Stdout>>
-    ensures { result.sink.faults ≡ 0 }
-{
-    ReportSink {
-        sink: StreamSink::new(stream),
-    }
-}
-
-/// Standard error, for the notes.
-pub fn notes_to(stream: Stderr) -> NoteSink<StreamSink<Stderr>>
-    ensures { result.sink.faults ≡ 0 }
-{
-    NoteSink {
-        sink: StreamSink::new(stream),
-    }
-}
-
-/// The words of the command line, without the program's name.
-///
-/// # Errors
-///
-/// A word that is no text, or want of memory for the words.
-pub fn words_of(rt: &(impl Env + AllocGlobal)) -> io::Result<Vec<String>> {
-    let words = after_name(rt.alloc(), env::args(rt)?)?;
-    Ok(words)
-}
-
-/// The words after the first, which is the program's name.
-///
-/// # Errors
-///
-/// Out of memory.
-pub fn after_name(alloc: Global, all: Args) -> io::Result<Vec<String>>
-    ensures ok { IfOk result (λ words. words.items ≡ drop 1 (into_iter_items all)) }
-    ensures err { IfErr result (λ error. error_kind error ≡ ErrorKind.OutOfMemory) }
-{
-    let mut rest = all;
-    let _name = rest.next();
-    let words = all_of(alloc, rest)?;
-    Ok(words)
-}
-
-/// All the words that are left.
-fn all_of(alloc: Global, left: Args) -> io::Result<Vec<String>>
-    ensures ok { IfOk result (λ words. words.items ≡ into_iter_items left) }
-    ensures err { IfErr result (λ error. error_kind error ≡ ErrorKind.OutOfMemory) }
-{
-    let mut rest = left;
-    let mut words = Vec::new(alloc);
-    while let Some(word) = rest.next() {
-        if words.push(word).is_err() {
-            return Err(io::Error::from(ErrorKind::OutOfMemory));
-        }
-    }
-    Ok(words)
-}
 
 /// Runs the words, or says why there are none: the top call for a program.
 pub fn answer<R: Threads + Sync + AllocGlobal, H: Shelf, K: Sink, E: Sink>(
@@ -131,26 +53,4 @@ pub fn answer<R: Threads + Sync + AllocGlobal, H: Shelf, K: Sink, E: Sink>(
         ),
         Err(error) => refuse_words(notes, error.kind()),
     }
-}
-
-/// Says why the words could not be taken: for want of memory, or since one is no text.
-fn refuse_words<E: Sink>(notes: &mut NoteSink<E>, kind: ErrorKind) -> Status
-    ensures memory { kind ≡ ErrorKind.OutOfMemory → (result ≡ Status.Memory)
-        × Notes E.written E.refuses notes.old.sink notes.new.sink (note_of Ending.Memory []) }
-    ensures words { kind ≢ ErrorKind.OutOfMemory → (result ≡ Status.WordsRefused)
-        × Notes E.written E.refuses notes.old.sink notes.new.sink (note_of Ending.WordsRefused []) }
-{
-    let ending = match kind {
-        ErrorKind::OutOfMemory => Ending::Memory,
-        _ => Ending::WordsRefused,
-    };
-    tell(&mut notes.sink, ending, b"");
-    status_of(ending)
-}
-
-/// The status of the process.
-pub fn exit_code(status: Status) -> ExitCode
-    ensures { exit_status result ≡ number_of status }
-{
-    ExitCode::from(status.number())
 }

@@ -1,28 +1,22 @@
 //! The top call: from the words to a report.
-ghost use Rattle.std.specs.Prelude.{◌≡◌, ◌≢◌, ◌⊎◌, ◌↔◌, ◌<◌, ◌≤◌, ◌^◌, ℕ, List, [], Some, length, map};
+ghost use Rattle.std.specs.Prelude.{◌≡◌, ◌≢◌, ◌⊎◌, ◌↔◌, ◌<◌, ◌≤◌, ◌^◌, ℕ, List, [], Option, Some, length, map};
 ghost use Rattle.std.specs.String.{string_bytes};
 ghost use Rattle.grind_outside.specs.Outside.{CountsFault};
-ghost use Rattle.grind_cli.specs.Commands.{IsSolve};
+ghost use Rattle.grind_command.specs.Commands.{IsSolve};
 ghost use Rattle.grind_theory.specs.Theories.{AreDeclared};
-ghost use Rattle.grind_cli.specs.Endings.{Ends, EndsOn, EndsOnTheory, Explains, ExplainsBytes, IsAnswer, max_theory_bytes};
-ghost use Rattle.grind_cli.specs.Notes.{Notes};
-ghost use Rattle.grind_cli.specs.Statuses.{note_of, status_of as ending_status};
-ghost use Rattle.grind_cli.specs.TheoryFiles.{TheoryOf};
+ghost use Rattle.grind_answers.specs.Endings.{Ends, EndsOnTheory, Explains, IsAnswer};
+ghost use Rattle.grind_command.specs.Notes.{Notes};
+ghost use Rattle.grind_command.specs.Statuses.{note_of, status_of as ending_status};
+ghost use Rattle.grind_theory_files.specs.TheoryFiles.{TheoryOf, max_theory_bytes};
 ghost use Rattle.grind_theory.specs.declared.theory.Theory.{Theory as ATheory};
 
-use crate::ending::{Ending, status_of};
-use crate::notes::tell;
-use crate::reader::{ReaderRefusal, one_theory_of, theory_of};
-use crate::status::Status;
-use crate::words::file_of;
 use crate::writing::write_report;
-use grind_outside::{ReadRefusal, Shelf, Sink, SinkRefusal};
+use grind_command::{Ending, Status, file_of, status_of, tell};
+use grind_outside::{Shelf, Sink, SinkRefusal};
 use grind_theory::theory::Theory;
+use grind_theory_files::{one_theory_of, read_theory};
 use std::alloc::Global;
 use std::thread::Threads;
-
-/// How many bytes a theory file may have.
-const MAX_THEORY_BYTES: u64 = 4_194_304;
 
 /// Does what the words say, `solve FILE`: reads the theory file from the shelf, solves each of its
 /// goals and writes the report to `out`, each block as soon as its goal is solved. What is refused
@@ -84,26 +78,10 @@ fn solve<H: Shelf, K: Sink>(alloc: Global, name: &str, shelf: &mut H, out: &mut 
     ensures shelf_quiet { ending_status result ≢ Status.ReadFault → H.faults shelf.new ≡ H.faults shelf.old }
     ensures out_quiet { ending_status result ≢ Status.WriteFault → K.faults out.new ≡ K.faults out.old }
 {
-    match shelf.read(alloc, name, MAX_THEORY_BYTES) {
-        Ok(bytes) => solve_bytes(alloc, bytes.as_slice(), out),
-        Err(ReadRefusal::Failed) => Ending::ReadFault,
-        Err(ReadRefusal::TooLong { .. }) => Ending::TooLong,
-        Err(ReadRefusal::Memory) => Ending::Memory,
-    }
-}
-
-/// Solves the theory that the bytes are.
-fn solve_bytes<K: Sink>(alloc: Global, bytes: &[u8], out: &mut K) -> Ending
-    requires { length bytes.now ≤ max_theory_bytes }
-    ensures ends { EndsOn (ending_status result) bytes.now (K.written out.old) (K.written out.new) (K.faults out.old) (K.faults out.new) }
-    ensures why { ExplainsBytes bytes.now result }
-    ensures out_quiet { ending_status result ≢ Status.WriteFault → K.faults out.new ≡ K.faults out.old }
-{
     one_theory_of();
-    let theory = match theory_of(alloc, bytes) {
+    let theory = match read_theory(alloc, name, shelf) {
         Ok(theory) => theory,
-        Err(ReaderRefusal::Refused(refusal)) => return Ending::Refused(refusal),
-        Err(ReaderRefusal::Memory) => return Ending::Memory,
+        Err(ending) => return ending,
     };
     solve_theory(alloc, &theory, out)
 }
@@ -112,7 +90,7 @@ fn solve_bytes<K: Sink>(alloc: Global, bytes: &[u8], out: &mut K) -> Ending
 fn solve_theory<K: Sink>(alloc: Global, theory: &Theory, out: &mut K) -> Ending
     requires { AreDeclared theory.now.signature theory.now.goals }
     ensures ends { EndsOnTheory (ending_status result) theory.now (K.written out.old) (K.written out.new) (K.faults out.old) (K.faults out.new) }
-    ensures why { (bytes : List ℕ) → ExplainsBytes bytes result }
+    ensures why { (content : Option (List ℕ)) → Explains content result }
     ensures out_quiet { ending_status result ≢ Status.WriteFault → K.faults out.new ≡ K.faults out.old }
 {
     let goals = theory.goals.as_slice();

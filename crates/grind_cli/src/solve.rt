@@ -1,8 +1,9 @@
 //! The proof of a goal: congruence decides it.
 ghost use Rattle.std.specs.Prelude.{IfOk};
-ghost use Rattle.grind_cli.specs.Outcomes.{IsOutcomeOf};
+ghost use Rattle.grind_answers.specs.Outcomes.{IsOutcomeOf};
 
-use grind_case_split::{Plain, ground_goals, solve_goal as decide};
+use grind_case_split::{Plain, solve_goal as decide};
+use grind_goal_equations::ground_goals;
 use grind_outside::Memory;
 use grind_proof_kernel::laws::typed_lines_count;
 use grind_report::report::Outcome;

@@ -1,14 +1,15 @@
 //! The report of a theory, written goal by goal.
-ghost use Rattle.std.specs.Prelude.{◌≡◌, ◌≤◌, ◌<◌, ◌^◌, ◌↔◌, ℕ, List as Sequence, [], ◌∷◌, length, IfOk, OnOk, OnErr, IsTrue};
-ghost use Rattle.grind_outside.specs.Outside.{CountsFault, OnPutFailed, UnlessPutFailed, appended};
-ghost use Rattle.grind_report.specs.Report.{Block, BlockFits, Report, header_bytes, block_bytes, end_bytes};
-ghost use Rattle.grind_cli.specs.Answers.{AnswersGoal, IsClosedBlock, AreClosed, WritesReport, WritesPart};
+ghost use Rattle.std.specs.Prelude.{◌≡◌, ◌≤◌, ◌<◌, ◌^◌, ◌↔◌, ℕ, List as Sequence, ◌∷◌, length, IfOk, OnErr, IsTrue};
+ghost use Rattle.grind_outside.specs.Outside.{CountsFault, OnPutFailed, UnlessPutFailed};
+ghost use Rattle.grind_report.specs.Report.{Block, Report};
+ghost use Rattle.grind_answers.specs.Answers.{AreClosed, WritesReport, WritesPart};
 ghost use Rattle.grind_theory.specs.Theories.{AreDeclared, IsGoalDeclared};
-ghost use Rattle.grind_cli.specs.Written.{AwaitsGoals, WritesFront, WritesBlock, BeginsBlock, SpellsBlock, IsClosedOutcome, WritesBlocks, WritesSomeBlocks};
+ghost use Rattle.grind_answers.specs.Written.{AwaitsGoals, WritesBlock, BeginsBlock, SpellsBlock, WritesBlocks, WritesSomeBlocks};
 
 use crate::solve::solve_goal;
+use grind_answers::{is_closed, write_end, write_header};
 use grind_outside::{List, Memory, Sink, SinkRefusal, write_whole};
-use grind_report::report::{Outcome, end_line, header, render_block};
+use grind_report::report::render_block;
 use grind_schemes::{Goal, Lemmas};
 use grind_signature::signature::Signature;
 use std::alloc::Global;
@@ -62,34 +63,6 @@ pub fn write_report<K: Sink>(
         return Err(refusal);
     }
     Ok(closed)
-}
-
-fn write_header<K: Sink>(alloc: Global, out: &mut K) -> Result<(), SinkRefusal>
-    ensures ok { OnOk result (K.written out.new ≡ appended (K.written out.old) header_bytes) }
-    ensures err { OnErr result (WritesFront (K.written out.old) (K.written out.new) header_bytes) }
-
-    ensures failed { OnPutFailed result (CountsFault (K.faults out.old) (K.faults out.new)) }
-    ensures quiet { UnlessPutFailed result (K.faults out.new ≡ K.faults out.old) }
-    ensures never_falls { K.faults out.old ≤ K.faults out.new }
-{
-    let Ok(line) = header(alloc) else {
-        return Err(SinkRefusal::Memory);
-    };
-    write_whole(out, line.as_slice())
-}
-
-fn write_end<K: Sink>(alloc: Global, count: u32, out: &mut K) -> Result<(), SinkRefusal>
-    ensures ok { OnOk result (K.written out.new ≡ appended (K.written out.old) (end_bytes count)) }
-    ensures err { OnErr result (WritesFront (K.written out.old) (K.written out.new) (end_bytes count)) }
-
-    ensures failed { OnPutFailed result (CountsFault (K.faults out.old) (K.faults out.new)) }
-    ensures quiet { UnlessPutFailed result (K.faults out.new ≡ K.faults out.old) }
-    ensures never_falls { K.faults out.old ≤ K.faults out.new }
-{
-    let Ok(line) = end_line(alloc, count) else {
-        return Err(SinkRefusal::Memory);
-    };
-    write_whole(out, line.as_slice())
 }
 
 /// Writes a block for each goal, after the header. Says whether every goal is closed.
@@ -175,10 +148,4 @@ fn block_of<K: Sink>(
     let bytes = render_block(alloc, contents.signature, goal, &outcome)?;
     let closed = is_closed(&outcome);
     Ok((closed, bytes))
-}
-
-fn is_closed(outcome: &Outcome) -> bool
-    ensures { IsTrue result ↔ IsClosedOutcome outcome.now }
-{
-    matches!(outcome, Outcome::Closed(_))
 }

@@ -1,6 +1,6 @@
 //! What partial matches have together.
 ghost use Rattle.std.specs.Prelude.{ℕ, Option, [], ◌∷◌, IsTrue, IfOk, OnOk, MatchOption};
-ghost use Rattle.grind_ematch.specs.Buckets.{key_at, bucket_at, HasRoots, HaveRoots};
+ghost use Rattle.grind_ematch.specs.Buckets.{bucket_at, HasRoots, HaveRoots};
 ghost use Rattle.grind_ematch.specs.Partials.{AreUnion, HasNoUnion, IsUnion, Joins, JoinsOne};
 
 use crate::buckets::{buckets, key_of, root_of};
@@ -73,23 +73,23 @@ fn joined_at(
     let sorted = buckets(alloc, variables, right)?;
     let mut found = List::new(alloc);
     for one in left {
-        join_bucket(alloc, variables, &sorted, one, &mut found)?;
+        let key = key_of(alloc, one.slots.as_slice(), variables)?;
+        join_bucket(alloc, &key, &sorted, one, &mut found)?;
     }
     Ok(found)
 }
 
-// Appends what a partial match has together with each of the bucket of its roots.
+// Appends what a partial match has together with each of the bucket with that key.
 fn join_bucket(
     alloc: Global,
-    variables: &[usize],
+    key: &Slots,
     sorted: &IndexMap<Slots, List<Partial>>,
     one: &Partial,
     found: &mut List<Partial>,
 ) -> Result<(), Memory>
-    ensures { OnOk result (JoinsOne one.now (bucket_at sorted.now.entries (key_at one.now.slots variables.now)) found.old found.new) }
+    ensures { OnOk result (JoinsOne one.now (bucket_at sorted.now.entries key.now) found.old found.new) }
 {
-    let key = key_of(alloc, one.slots.as_slice(), variables)?;
-    let Some(bucket) = sorted.get(&key) else {
+    let Some(bucket) = sorted.get(key) else {
         return Ok(());
     };
     join_one(alloc, one, bucket.as_slice(), found)?;

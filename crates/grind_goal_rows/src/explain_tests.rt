@@ -4,12 +4,12 @@ ghost use Rattle.std.specs.Prelude.{IfOk, IfSome};
 ghost use Rattle.grind_proof_kernel.specs.Typing.{HasTerms};
 
 use grind_case_split::{Equations, equations_of};
-use grind_cli::reader::theory_of;
 use grind_explain::explain;
 use grind_outside::Memory;
 use grind_proof_kernel::{Claim, Proof, check_line};
 use grind_schemes::{Goal, Lemmas};
 use grind_term_graph::NodeId;
+use grind_theory_files::theory_of;
 use std::alloc::Global;
 
 const CYCLE: &str = "sort S. fun f(S): S.

@@ -2,11 +2,11 @@
 ghost use Rattle.std.specs.Prelude.{◌≤◌, IsTrue, [], ◌∷◌, length};
 ghost use Rattle.grind_schemes.specs.Instances.{IsSubstitution};
 
-use grind_cli::reader::theory_of;
 use grind_outside::Memory;
 use grind_schemes::{Theorem, instantiate, missing};
 use grind_term_graph::{NodeId, TermRefusal, TermTable};
 use grind_theory::Theory;
+use grind_theory_files::theory_of;
 use std::alloc::Global;
 
 /// Terms: 2 `a`, 3 `f(a)`, 4 `b`, 5 `f(b)`, 6 their equation, 7 `a = b`.

@@ -1,7 +1,8 @@
 //! The program: it takes the words, and answers them on the files and streams of the machine.
 #![tactic(auto)]
 
-use grind_cli::program::{answer, exit_code, notes_to, report_to, words_of};
+use grind_cli::program::answer;
+use grind_command::{exit_code, notes_to, report_to, words_of};
 use grind_outside::FileShelf;
 use std::process::ExitCode;
 

@@ -3,13 +3,13 @@ ghost use Rattle.std.specs.Prelude.{◌<◌, OnOk, length};
 ghost use Rattle.grind_scenes.specs.Scenes.{AreClassesOf};
 
 use grind_classes::Classes;
-use grind_cli::reader::theory_of;
 use grind_ematch::Match;
 use grind_outside::{List, Memory};
 use grind_scenes::{all_alone, first_matches, join, zeros};
 use grind_schemes::Lemmas;
 use grind_term_graph::{NodeId, TermTable};
 use grind_theory::Theory;
+use grind_theory_files::theory_of;
 use std::alloc::Global;
 
 // The terms are, from 2 on, a, f(a), b, f(b), and two equations.

@@ -17,5 +17,6 @@ pub use laws::{
     normal_forms_have_their_values, reductions_have_one_answer, s_polynomials_are_one,
     s_polynomials_have_their_values, zero_rests_have_factor_one,
 };
-pub use pairs::s_poly;
+pub use numbers::divided;
+pub use pairs::{lead_divisor, s_poly};
 pub use reduction::{Reduced, normal};

@@ -32,8 +32,8 @@ pub(crate) fn common_divisor(a: i128, b: i128) -> u128
     gcd(a.unsigned_abs(), b.unsigned_abs())
 }
 
-// A number divided by a positive one, rounded toward 0.
-pub(crate) fn divided(number: i128, divisor: u128) -> i128
+/// A number divided by a positive one, rounded toward 0.
+pub fn divided(number: i128, divisor: u128) -> i128
     requires { 0 < divisor }
     ensures { result ≡ divided_by divisor number }
 {

@@ -6,7 +6,7 @@ ghost use Rattle.grind_normal_forms.specs.Pairs.{IsLeadGcd, IsSPolynomial, lead_
 use crate::numbers::{common_divisor, divided};
 use grind_monomials::{least_common_multiple, quotient};
 use grind_outside::{List, Memory};
-use grind_polynomials::{Poly, PolyRefusal, add_multiples};
+use grind_polynomials::{Multiplier, Poly, PolyRefusal, add_multiples};
 use grind_term_graph::NodeId;
 use std::alloc::Global;
 
@@ -33,9 +33,18 @@ pub fn s_poly(alloc: Global, a: &Poly, b: &Poly) -> Result<Poly, PolyRefusal>
     let right = quotient(alloc, whole.as_slice(), b.lead_monomial())?;
     let first = divided(b.lead_coefficient(), h);
     let second = divided(a.lead_coefficient(), h);
-    let nothing = List::new(alloc);
-    let start = add_multiples(alloc, false, first, left.as_slice(), a.terms(), nothing)?;
-    let terms = add_multiples(alloc, true, second, right.as_slice(), b.terms(), start)?;
+    let added = Multiplier {
+        minus: false,
+        coefficient: first,
+        monomial: left.as_slice(),
+    };
+    let taken = Multiplier {
+        minus: true,
+        coefficient: second,
+        monomial: right.as_slice(),
+    };
+    let start = add_multiples(alloc, &added, a.terms(), List::new(alloc))?;
+    let terms = add_multiples(alloc, &taken, b.terms(), start)?;
     Ok(Poly { terms })
 }
 
@@ -47,8 +56,8 @@ fn lead_multiple(alloc: Global, a: &Poly, b: &Poly) -> Result<List<NodeId>, Memo
     Ok(whole)
 }
 
-// The greatest common divisor of the leading coefficients.
-fn lead_divisor(a: &Poly, b: &Poly) -> u128
+/// The greatest common divisor of the leading coefficients.
+pub fn lead_divisor(a: &Poly, b: &Poly) -> u128
     requires { a.now ≢ [] }
     ensures divisor { IsLeadGcd a.now b.now result }
     ensures positive { 0 < result }

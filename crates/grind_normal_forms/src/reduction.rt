@@ -11,7 +11,7 @@ use crate::numbers::{common_divisor, divided, unit_of, weight_of};
 use crate::scaling::scale;
 use grind_monomials::{divides, quotient};
 use grind_outside::List;
-use grind_polynomials::{Poly, PolyRefusal, Term, add_multiples, product_of};
+use grind_polynomials::{Multiplier, Poly, PolyRefusal, Term, add_multiples, product_of};
 use grind_term_graph::NodeId;
 use std::alloc::Global;
 
@@ -138,7 +138,12 @@ pub(crate) fn step_by(
     };
     let more = quotient(alloc, term.monomial.as_slice(), element.lead_monomial())?;
     let start = scale(alloc, unit, state.rest.terms())?;
-    let terms = add_multiples(alloc, true, weight, more.as_slice(), element.terms(), start)?;
+    let off = Multiplier {
+        minus: true,
+        coefficient: weight,
+        monomial: more.as_slice(),
+    };
+    let terms = add_multiples(alloc, &off, element.terms(), start)?;
     let Some(factor) = product_of(unit, state.factor) else {
         return Err(PolyRefusal::Overflow);
     };

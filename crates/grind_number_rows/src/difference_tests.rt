@@ -103,15 +103,22 @@ fn judges_cuts(rt: HostRuntime) -> Result<(), Fail> {
     Ok(())
 }
 
-// What the test of this number says of two nodes and a form.
-fn says_of_nodes(
-    alloc: Global,
-    terms: &TermTable,
+// A test by its number, and the two nodes that it is made of.
+#[derive(Copy, Clone)]
+struct Asked {
     test: u32,
     a: NodeId,
     b: NodeId,
+}
+
+// What a test says of its nodes and a form.
+fn says_of_nodes(
+    alloc: Global,
+    terms: &TermTable,
+    asked: Asked,
     form: &Form,
 ) -> Result<bool, Memory> {
+    let Asked { test, a, b } = asked;
     match test {
         0 => is_difference(alloc, terms, a, b, form),
         1 => is_difference_plus_one(alloc, terms, a, b, form),
@@ -175,7 +182,12 @@ fn judges_differences(rt: HostRuntime) -> Result<(), Fail> {
         (4, SUM, THREE, 0, false),
     ] {
         let number = Form::number(alloc, constant);
-        let said = says_of_nodes(alloc, &terms, test, NodeId::new(a), NodeId::new(b), &number);
+        let asked = Asked {
+            test,
+            a: NodeId::new(a),
+            b: NodeId::new(b),
+        };
+        let said = says_of_nodes(alloc, &terms, asked, &number);
         assert_eq!(rt; said, Ok(answer));
     }
     Ok(())

@@ -14,7 +14,7 @@ mod running;
 pub mod sum;
 
 pub use laws::{readings_have_their_values, readings_stay, sums_have_their_values};
-pub use multiples::add_multiples;
+pub use multiples::{Multiplier, add_multiples};
 pub use numbers::{product_of, sum_of};
 pub use poly::{Poly, PolyRefusal, Term};
 pub use put::add_monomial;

@@ -5,7 +5,7 @@ ghost use Rattle.grind_polynomials.specs.Polynomials.{is_over};
 ghost use Rattle.grind_polynomials.specs.Running.{terms_of};
 ghost use Rattle.grind_polynomials.specs.Sums.{with_multiples, with_product, with_products, with_all_products, sum_product};
 
-use crate::multiples::add_multiples;
+use crate::multiples::{Multiplier, add_multiples};
 use crate::numbers::product_of;
 use crate::poly::{Poly, PolyRefusal, Term, copied};
 use crate::running::{Running, add, started, written};
@@ -39,7 +39,12 @@ pub(crate) fn sum(alloc: Global, a: &Poly, b: &Poly) -> Result<Poly, PolyRefusal
     ensures degree { IsErrOf result PolyRefusal.Degree → ⊥ }
 {
     let start = copied(alloc, a.terms())?;
-    let terms = add_multiples(alloc, false, 1, &[], b.terms(), start)?;
+    let once = Multiplier {
+        minus: false,
+        coefficient: 1,
+        monomial: &[],
+    };
+    let terms = add_multiples(alloc, &once, b.terms(), start)?;
     Ok(Poly { terms })
 }
 
@@ -49,7 +54,12 @@ pub(crate) fn negation(alloc: Global, a: &Poly) -> Result<Poly, PolyRefusal>
     ensures overflow { IsErrOf result PolyRefusal.Overflow → with_multiples true (pos 1) [] a.now [] ≡ Err Overflow }
     ensures degree { IsErrOf result PolyRefusal.Degree → ⊥ }
 {
-    let terms = add_multiples(alloc, true, 1, &[], a.terms(), List::new(alloc))?;
+    let off = Multiplier {
+        minus: true,
+        coefficient: 1,
+        monomial: &[],
+    };
+    let terms = add_multiples(alloc, &off, a.terms(), List::new(alloc))?;
     Ok(Poly { terms })
 }
 

@@ -1,7 +1,8 @@
 //! The program once more, for a run that is refused: of the three words after its name one is empty, so they are no command.
 #![tactic(auto)]
 
-use grind_cli::program::{answer, exit_code, notes_to, report_to, words_of};
+use grind_cli::program::answer;
+use grind_command::{exit_code, notes_to, report_to, words_of};
 use grind_outside::FileShelf;
 use std::process::ExitCode;
 

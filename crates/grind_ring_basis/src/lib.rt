@@ -4,7 +4,6 @@
 #![tactic(auto)]
 
 mod combination;
-mod divisors;
 mod factors;
 pub mod laws;
 pub mod lines;

@@ -9,10 +9,9 @@ ghost use Rattle.grind_polynomials.specs.Sums.{and_then, sum_product};
 ghost use Rattle.grind_ring_basis.specs.Lines.{first_multiple, second_multiple, AreShared};
 
 use crate::combination::with_product;
-use crate::divisors::divided;
 use crate::types::Places;
 use grind_monomials::{least_common_multiple, quotient};
-use grind_normal_forms::Factors;
+use grind_normal_forms::{Factors, divided};
 use grind_outside::{List, Memory};
 use grind_polynomials::{Poly, Term};
 use grind_term_graph::NodeId;

@@ -2,9 +2,8 @@
 ghost use Rattle.std.specs.Prelude.{◌≢◌, ◌<◌, [], IfOk};
 ghost use Rattle.grind_ring_basis.specs.Pairs.{Cancels};
 
-use crate::divisors::lead_divisor;
 use crate::types::{Cancelled, Pair};
-use grind_normal_forms::s_poly;
+use grind_normal_forms::{lead_divisor, s_poly};
 use grind_outside::Memory;
 use grind_polynomials::{Poly, PolyRefusal};
 use std::alloc::Global;

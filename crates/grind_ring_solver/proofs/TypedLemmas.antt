@@ -1,5 +1,5 @@
 -- The lines of the answers rest on posts that the solver knows.
-use Rattle.std.proofs.Common.{◌≡◌, ◌≢◌, inl, inr, ℕ, List, [], ◌∷◌, sym, subst}
+use Rattle.std.proofs.Common.{◌≡◌, inl, inr, ℕ, List, [], ◌∷◌, sym, subst}
 use Rattle.grind_polynomials.specs.declared.poly.Term.{Term}
 use Rattle.grind_ring_basis.specs.declared.types.Fact.{Fact}
 use Rattle.grind_ring_basis.specs.declared.types.Share.{Share}

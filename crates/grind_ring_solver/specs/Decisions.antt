@@ -1,5 +1,5 @@
 -- What is to be done, before the solver changes. No public clause cites these words.
-use Rattle.std.specs.Prelude.{◌≡◌, ℕ, ◌⊎◌, List, Contains, Bool, true, false, Option, Some, None, MatchOption}
+use Rattle.std.specs.Prelude.{◌≡◌, ℕ, List, Contains, Bool, true, false, Option, Some, None, MatchOption}
 use Rattle.grind_term_graph.specs.declared.node.Node.{Node}
 use Rattle.grind_polynomials.specs.declared.poly.Term.{Term}
 use Rattle.grind_claims.specs.declared.proof.Rule.{Rule}
@@ -9,17 +9,17 @@ use Rattle.grind_ring_basis.specs.declared.types.Combination.{Combination}
 use Rattle.grind_ring_units.specs.declared.types.State.{State}
 use Rattle.grind_ring_units.specs.declared.findings.Marks.{Marks}
 use Rattle.grind_ring_units.specs.declared.findings.Posts.{Posts}
-use Rattle.grind_ring_units.specs.Zeroed.{HasZeroed, NoneZeroed, HasUnread, AllRead}
+use Rattle.grind_ring_units.specs.Zeroed.{HasZeroed, NoneZeroed}
 use Rattle.grind_ring_units.specs.PostUnits.{IsJoining}
 use Rattle.grind_ring_units.specs.Conflicts.{HasContradiction, NoContradiction}
-use Rattle.grind_ring_units.specs.EqualTerms.{AreEqualTerms, NoEqualTerms}
+use Rattle.grind_ring_units.specs.EqualTerms.{AreEqualTerms}
 use Rattle.grind_ring_units.specs.Scans.{MayJoin}
 use Rattle.grind_ring_units.specs.declared.units.equal_terms.EqualTerms.{EqualTerms}
 use Rattle.grind_ring_solver.specs.declared.types.RingStep.{RingStep}
 use Rattle.grind_ring_solver.specs.declared.types.RingStep.TheVariants.{Added, Equal}
 use Rattle.grind_ring_solver.specs.declared.decision.Decision.{Decision}
 use Rattle.grind_ring_solver.specs.declared.decision.Decision.TheVariants as decision
-use Rattle.grind_ring_solver.specs.Steps.{IsJoiningForm, WouldJoin, WouldNotFit, AreTooLarge, FormsFit, EachFits, NoneWouldJoin, NothingJoins, NothingApplies, IsAtRest}
+use Rattle.grind_ring_solver.specs.Steps.{IsJoiningForm, WouldJoin, WouldNotFit, AreTooLarge, FormsFit, EachFits, NoneWouldJoin, EachIsDone, NothingJoins, NothingApplies, IsAtRest}
 
 -- the first, or the second where there is no first
 abbrev pub first_of : Option Posts → Option Posts → Option Posts
@@ -39,13 +39,14 @@ pub record AreBlocked (state : State) (marks : Marks) : Type 0 where
   pub too_large : MatchOption marks.too_large (FormsFit state) (λ posts. WouldNotFit state posts.first posts.second)
   pub would_join : MatchOption marks.left (NoneWouldJoin state) (λ posts. WouldJoin state posts.first posts.second)
   pub none_left : MayJoin state → marks.left ≡ None
+  pub done : marks.too_large ≡ None → marks.left ≡ None → EachIsDone state
 
 -- what is to be done where no unit applies
 abbrev pub IsDecisionAtEnd : State → List Node → Decision → Type 0
 IsDecisionAtEnd state nodes (decision.TooLarge posts) = AreTooLarge state nodes posts.first posts.second
 IsDecisionAtEnd state nodes (decision.AtLimit posts) =
     EachFits state nodes × (¬ MayJoin state) × WouldJoin state posts.first posts.second
-IsDecisionAtEnd state nodes decision.Rest = EachFits state nodes × NoneWouldJoin state
+IsDecisionAtEnd state nodes decision.Rest = EachFits state nodes × NoneWouldJoin state × EachIsDone state
 IsDecisionAtEnd state nodes (decision.Zeroed post) = ⊥
 IsDecisionAtEnd state nodes (decision.Joins it) = ⊥
 IsDecisionAtEnd state nodes (decision.Adds rest line) = ⊥

@@ -1,11 +1,24 @@
 -- What the solver keeps, and what it takes.
-use Rattle.std.specs.Prelude.{◌≡◌, ℕ, ◌≤◌, [], ◌∷◌, ◌++◌}
+use Rattle.std.specs.Prelude.{◌≡◌, ℕ, ◌≤◌, List, [], ◌∷◌, ◌++◌, All, Contains, None}
+use Rattle.grind_polynomials.specs.declared.poly.Term.{Term}
+use Rattle.grind_polynomials.specs.Polynomials.{IsPoly}
+use Rattle.grind_normal_forms.specs.Reduction.{target}
 use Rattle.grind_claims.specs.declared.claim.Claim.{Claim}
 use Rattle.grind_claims.specs.declared.claim.Claim.TheVariants.{Holds, Fails, Same, Differ, AtMost, Zero, Absurd}
+use Rattle.grind_ring_basis.specs.declared.types.Basis.{Basis}
 use Rattle.grind_ring_basis.specs.declared.types.Fact.{Fact}
-use Rattle.grind_ring_basis.specs.Bases.{fact, IsBasis, IsElement}
+use Rattle.grind_ring_basis.specs.Bases.{fact, IsBasis, IsElement, ReducesToZero}
 use Rattle.grind_ring_units.specs.declared.types.State.{State}
 use Rattle.grind_ring_units.specs.Given.{equality, Knows}
+
+-- no element of the basis reduces the polynomial
+abbrev pub IsIrreducible : Basis → List Term → Type 0
+IsIrreducible basis poly = target basis.elements poly ≡ None
+
+-- the fact's polynomial is reduced to 0
+pub record IsZeroed (basis : Basis) (it : Fact) : Type 0 where
+  pub poly : IsPoly it.poly
+  pub zero : ReducesToZero basis it.poly
 
 -- what a solver keeps
 pub record IsState (state : State) : Type 0 where
@@ -13,6 +26,9 @@ pub record IsState (state : State) : Type 0 where
   pub basis : IsBasis state.basis
   -- which is one that the solver knows
   pub known : (it : Fact) → IsElement state.basis it → Knows state it
+  pub polys : All (λ b. IsPoly b) state.basis.elements
+  -- what the solver has from its own answers is reduced to 0
+  pub zeroed : (it : Fact) → Contains state.own it → IsZeroed state.basis it
   -- no more normal forms joined than may
   pub within : state.made ≤ state.limit
 

@@ -12,8 +12,8 @@ use Rattle.grind_ring_basis.specs.declared.types.Combination.{Combination}
 use Rattle.grind_ring_basis.specs.Bases.{fact}
 use Rattle.grind_ring_units.specs.declared.types.State.{State}
 use Rattle.grind_ring_units.specs.Zeroed.{HasZeroed, NoneZeroed, HasUnread, AllRead}
-use Rattle.grind_ring_units.specs.PostUnits.{IsJoining, IsReduced, WouldReduce, IsPostTooLarge}
-use Rattle.grind_ring_units.specs.PairUnits.{IsPairReduced, IsPairTooLarge, WouldJoinPair, ArePostsAt}
+use Rattle.grind_ring_units.specs.PostUnits.{IsJoining, IsReduced, WouldReduce, IsPostTooLarge, IsPostDone}
+use Rattle.grind_ring_units.specs.PairUnits.{AreElements, IsPairReduced, IsPairTooLarge, IsPairDone, WouldJoinPair, ArePostsAt}
 use Rattle.grind_ring_units.specs.Conflicts.{HasContradiction, NoContradiction}
 use Rattle.grind_ring_units.specs.EqualTerms.{AreEqualTerms, NoEqualTerms}
 use Rattle.grind_ring_units.specs.Scans.{MayJoin}
@@ -33,17 +33,6 @@ joined state it = record {
   taken = state.taken;
   own = state.own;
   basis = with_element state.basis it;
-}
-
--- one more normal form joined
-abbrev pub counted : State → State
-counted state = record {
-  limit = state.limit;
-  made = state.made + 1;
-  equalities = state.equalities;
-  taken = state.taken;
-  own = state.own;
-  basis = state.basis;
 }
 
 -- the fact, a normal form, joined the basis, and is known
@@ -116,6 +105,12 @@ pub record NoneWouldJoin (state : State) : Type 0 where
   pub posts : (it : Fact) → Contains state.taken it → ¬ WouldReduce state it
   pub pairs : (places : Places) → ¬ WouldJoinPair state places
 
+-- each fact that was taken and each pair of elements has a normal form that is 0 or that a known post says to be 0, but pairs of
+-- too high a degree
+pub record EachIsDone (state : State) : Type 0 where
+  pub posts : (it : Fact) → Contains state.taken it → IsPostDone state it
+  pub pairs : (places : Places) (first second : List Term) → AreElements state places first second → IsPairDone state places
+
 -- no fact joins as it is, and no normal form joins, or none may
 pub record NothingJoins (state : State) : Type 0 where
   pub joining : (it : Fact) → Contains state.taken it → ¬ IsJoining state it
@@ -133,6 +128,7 @@ pub record IsAtRest (state : State) (nodes : List Node) (lists : List (List ℕ)
   pub applies : NothingApplies state nodes lists
   pub fits : EachFits state nodes
   pub forms : NoneWouldJoin state
+  pub done : EachIsDone state
 
 -- the answer, and what is known after it: its case stands, and nothing before it does
 abbrev pub IsStep : State → List Node → List (List ℕ) → ℕ → RingStep → State → Type 0

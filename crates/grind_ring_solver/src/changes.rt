@@ -1,10 +1,11 @@
 //! What changes in what the solver knows.
 ghost use Rattle.std.specs.Prelude.{◌≡◌, ◌≢◌, ◌+◌, ◌<◌, [], true, false, IfOk, OnOk, OnErr};
-ghost use Rattle.grind_ring_basis.specs.Bases.{fact};
+ghost use Rattle.grind_arithmetic_rules.specs.PolyRules.{CoefficientsFit};
+ghost use Rattle.grind_ring_basis.specs.Bases.{fact, ReducesToZero};
 ghost use Rattle.grind_ring_units.specs.Given.{Knows};
 ghost use Rattle.grind_ring_units.specs.Scans.{MayJoin};
-ghost use Rattle.grind_ring_solver.specs.Given.{IsState, with_equality, with_fact, IsTaken};
-ghost use Rattle.grind_ring_solver.specs.Steps.{with_element, joined, counted, added, noted, IsStep};
+ghost use Rattle.grind_ring_solver.specs.Given.{IsIrreducible, IsState, with_equality, with_fact, IsTaken};
+ghost use Rattle.grind_ring_solver.specs.Steps.{with_element, joined, added, noted, IsStep};
 ghost use Rattle.grind_ring_solver.specs.Decisions.{is_ideal_rule, added_step, equal_step};
 
 use crate::decision::{Decision, decide};
@@ -42,29 +43,21 @@ fn join(state: &mut State, it: Fact) -> Result<(), Memory>
     ensures ok { OnOk result (state.new ≡ joined state.old it) }
     ensures keeps { IsState state.new }
 {
+    let _terms = it.poly.terms();
     join_basis(&mut state.basis, it)?;
     Ok(())
 }
 
 // The fact is known besides.
 fn know(state: &mut State, it: Fact) -> Result<(), Memory>
-    requires { IsState state.old }
+    requires state { IsState state.old }
+    requires zero { ReducesToZero state.old.basis it.poly }
     ensures ok { OnOk result (state.new ≡ noted state.old it) }
     ensures keeps { IsState state.new }
 {
+    let _terms = it.poly.terms();
     state.own.push(it)?;
     Ok(())
-}
-
-// One more normal form joined.
-fn count(state: &mut State)
-    requires state { IsState state.old }
-    requires free { MayJoin state.old }
-    ensures ok { state.new ≡ counted state.old }
-    ensures keeps { IsState state.new }
-{
-    let limit = state.limit;
-    state.made = one_more(state.made, limit);
 }
 
 // The next number, where it is at most the limit.
@@ -75,23 +68,45 @@ fn one_more(made: u32, limit: u32) -> u32
     made + 1
 }
 
+// The normal form joins the basis under the number of the next post, and is known. Both are the same fact.
+fn add(state: &mut State, it: Fact, known: Fact) -> Result<(), Memory>
+    requires state { IsState state.old }
+    requires same { known ≡ it }
+    requires nonzero { it.poly ≢ [] }
+    requires fits { CoefficientsFit it.poly }
+    requires irreducible { IsIrreducible state.old.basis it.poly }
+    requires free { MayJoin state.old }
+    ensures ok { OnOk result (state.new ≡ added state.old it) }
+    ensures keeps { IsState state.new }
+{
+    let _terms = it.poly.terms();
+    let count = state.own.len();
+    state.own.push(known)?;
+    let joined = join_basis(&mut state.basis, it);
+    let Ok(()) = joined else {
+        state.own.truncate(count);
+        return Err(Memory);
+    };
+    let limit = state.limit;
+    state.made = one_more(state.made, limit);
+    Ok(())
+}
+
 // The normal form joins the basis under the number of the next post.
-fn add(alloc: Global, state: &mut State, next: u32, rest: &Poly) -> Result<(), Memory>
+fn add_form(alloc: Global, state: &mut State, next: u32, rest: &Poly) -> Result<(), Memory>
     requires state { IsState state.old }
     requires nonzero { rest.now ≢ [] }
+    requires fits { CoefficientsFit rest.now }
+    requires irreducible { IsIrreducible state.old.basis rest.now }
     requires free { MayJoin state.old }
     ensures ok { OnOk result (state.new ≡ added state.old (fact next rest.now)) }
     ensures keeps { IsState state.new }
 {
     let poly = rest.copy(alloc)?;
-    let known = rest.copy(alloc)?;
-    let it = Fact {
-        post: next,
-        poly: known,
-    };
-    know(state, it)?;
-    join(state, Fact { post: next, poly })?;
-    count(state);
+    let it = Fact { post: next, poly };
+    let poly = rest.copy(alloc)?;
+    let known = Fact { post: next, poly };
+    add(state, it, known)?;
     Ok(())
 }
 
@@ -110,7 +125,8 @@ fn is_ideal_rule(rule: &Rule) -> bool
 
 // The polynomial of two equal terms is known under the number of the next post, where no post said before that it is 0.
 fn note(alloc: Global, state: &mut State, next: u32, poly: &Poly, rule: &Rule) -> Result<(), Memory>
-    requires { IsState state.old }
+    requires state { IsState state.old }
+    requires zero { is_ideal_rule rule.now ≡ true → ReducesToZero state.old.basis poly.now }
     ensures ideal { OnOk result (is_ideal_rule rule.now ≡ true → state.new ≡ noted state.old (fact next poly.now)) }
     ensures other { OnOk result (is_ideal_rule rule.now ≡ false → state.new ≡ state.old) }
     ensures keeps { IsState state.new }
@@ -193,7 +209,7 @@ pub(crate) fn answer(
             Ok(RingStep::Joins(post))
         }
         Decision::Adds { rest, line } => {
-            add(alloc, state, next, &rest)?;
+            add_form(alloc, state, next, &rest)?;
             Ok(added_step(rest, line))
         }
         Decision::Conflict(post) => Ok(RingStep::Conflict(post)),

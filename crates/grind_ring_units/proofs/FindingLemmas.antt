@@ -120,7 +120,7 @@ module _ (a b : List Term) where
 
 module _ (state : State) (places : Places) where
   -- the S-polynomial at these places is that of the elements there
-  pair_of : (a b : List Term) (pair : Pair) → AreElements state places a b → IsPairAt state.basis places pair → IsPair a b pair
+  pub pair_of : (a b : List Term) (pair : Pair) → AreElements state places a b → IsPairAt state.basis places pair → IsPair a b pair
   pair_of a b pair are is =
       subst (λ (x : List Term). IsPair x b pair) (same_Some is.first a (sym is.first_is ∙ are.first_is))
       (subst (λ (x : List Term). IsPair is.first x pair) (same_Some is.second b (sym is.second_is ∙ are.second_is)) is.pair_is)

@@ -10,24 +10,25 @@ use Rattle.grind_ring_units.specs.declared.findings.Marks.{Marks}
 use Rattle.grind_ring_units.specs.declared.findings.Posts.{Posts}
 use Rattle.grind_ring_units.specs.declared.findings.Scan.{Scan}
 use Rattle.grind_ring_units.specs.declared.findings.Scan.TheVariants as scan
-use Rattle.grind_ring_units.specs.PostUnits.{IsJoining, IsPostTooLarge, WouldReduce}
-use Rattle.grind_ring_units.specs.PairUnits.{IsPairTooLarge, WouldJoinPair, ArePostsAt}
+use Rattle.grind_ring_units.specs.PostUnits.{IsJoining, IsPostTooLarge, IsPostDone, WouldReduce}
+use Rattle.grind_ring_units.specs.PairUnits.{IsPairTooLarge, IsPairDone, WouldJoinPair, ArePostsAt}
 use Rattle.grind_ring_units.specs.Findings.{IsFoundAtPost, IsFoundAtPair, IsCase, IsCaseScan, IsFormScan, marked, HasMarks}
 use Rattle.grind_ring_units.specs.Scans.{posts_of, no_marks, OnlyLater, IsOneOf, AreMarked, MayJoin, ArePostsOf, AreMarkedPosts, no_posts, IsPostScan, ArePostsOfPair, IsFrom, IsWithin, AreMarkedPairs, IsPairScan, no_pairs}
 use Rattle.grind_ring_units.proofs.ListLemmas.{none_listed, first_or_rest, at_first, in_rest}
 use Rattle.grind_ring_units.proofs.FindingLemmas.{done_not_joining, done_not_large, done_not_reduced, reducible_not_joining, reduced_not_large, large_not_joining, large_not_reduced, done_pair_not_large, done_pair_not_joining, joining_pair_not_large, large_pair_not_joining}
 
 -- ---- marks of anything
-module _ (K : Type 0) (all own large joins : K → Type 0) (are_posts : K → Posts → Type 0) (free : Type 0) where
-  begin_mark : (later : K → Type 0) → ((k : K) → all k → later k) → AreMarked K all later own large joins are_posts free no_marks
+module _ (K : Type 0) (all done own large joins : K → Type 0) (are_posts : K → Posts → Type 0) (free : Type 0) where
+  begin_mark : (later : K → Type 0) → ((k : K) → all k → later k) → AreMarked K all later done own large joins are_posts free no_marks
   begin_mark later each = record {
+    judged = λ k there. inl (inl (each k there));
     none_own = λ k there it. each k there;
     too_large = λ k there it. each k there;
     would_join = λ k there it. each k there;
     none_left = λ it. refl;
   }
 
-  module _ (later next : K → Type 0) (marks : Marks) (so_far : AreMarked K all later own large joins are_posts free marks) where
+  module _ (later next : K → Type 0) (marks : Marks) (so_far : AreMarked K all later done own large joins are_posts free marks) where
     -- what is later is later still, or none of P
     moved : (P : K → Type 0) → ((k : K) → all k → P k → later k → next k) → (mark : Option Posts)
         → MatchOption mark (OnlyLater K all later P) (λ posts. IsOneOf K all P are_posts posts)
@@ -35,17 +36,30 @@ module _ (K : Type 0) (all own large joins : K → Type 0) (are_posts : K → Po
     moved P step None h = λ k there it. step k there it (h k there it)
     moved P step (Some posts) h = h
 
-    same_marks : ((k : K) → all k → own k → later k → next k) → ((k : K) → all k → large k → later k → next k)
-        → ((k : K) → all k → joins k → later k → next k) → AreMarked K all next own large joins are_posts free marks
-    same_marks first second third = record {
+    -- each is judged still
+    judged_on : ((k : K) → all k → later k → (next k ⊎ done k) ⊎ (large k ⊎ joins k)) → (k : K) → all k
+        → (next k ⊎ done k) ⊎ (large k ⊎ joins k)
+    judged_on step k there = elim (so_far.judged k there) [
+      | inl one ↦ elim one [
+        | inl is_later ↦ step k there is_later
+        | inr is_done ↦ inl (inr is_done)
+      ]
+      | inr other ↦ inr other
+    ]
+
+    same_marks : ((k : K) → all k → later k → (next k ⊎ done k) ⊎ (large k ⊎ joins k))
+        → ((k : K) → all k → own k → later k → next k) → ((k : K) → all k → large k → later k → next k)
+        → ((k : K) → all k → joins k → later k → next k) → AreMarked K all next done own large joins are_posts free marks
+    same_marks each first second third = record {
+      judged = judged_on each;
       none_own = λ k there it. first k there it (so_far.none_own k there it);
       too_large = moved large second marks.too_large so_far.too_large;
       would_join = moved joins third marks.left so_far.would_join;
       none_left = so_far.none_left;
     }
 
-    pub marked_on : ((k : K) → all k → later k → next k) → AreMarked K all next own large joins are_posts free marks
-    marked_on step = same_marks (λ k there it. step k there) (λ k there it. step k there) (λ k there it. step k there)
+    pub marked_on : ((k : K) → all k → later k → next k) → AreMarked K all next done own large joins are_posts free marks
+    marked_on step = same_marks (λ k there it. inl (inl (step k there it))) (λ k there it. step k there) (λ k there it. step k there) (λ k there it. step k there)
 
     module _ (one : K) (there_one : all one) (passes : (k : K) → later k → (one ≡ k) ⊎ next k) where
       passed : (P : K → Type 0) → ¬ P one → (k : K) → all k → P k → later k → next k
@@ -54,12 +68,22 @@ module _ (K : Type 0) (all own large joins : K → Type 0) (are_posts : K → Po
         | inr more ↦ more
       ]
 
-      marked_done : ¬ own one → ¬ large one → ¬ joins one → AreMarked K all next own large joins are_posts free marks
-      marked_done first second third = same_marks (passed own first) (passed large second) (passed joins third)
+      past : done one ⊎ (large one ⊎ joins one) → (k : K) → all k → later k → (next k ⊎ done k) ⊎ (large k ⊎ joins k)
+      past is k there is_later = elim (passes k is_later) [
+        | inl same ↦ subst (λ (x : K). (next x ⊎ done x) ⊎ (large x ⊎ joins x)) same (elim is [
+          | inl here ↦ inl (inr here)
+          | inr here ↦ inr here
+        ])
+        | inr more ↦ inl (inl more)
+      ]
+
+      marked_done : done one → ¬ own one → ¬ large one → ¬ joins one → AreMarked K all next done own large joins are_posts free marks
+      marked_done is first second third = same_marks (past (inl is)) (passed own first) (passed large second) (passed joins third)
 
       marked_large : (posts : Posts) → are_posts one posts → ¬ own one → large one → ¬ joins one
-          → AreMarked K all next own large joins are_posts free (record { too_large = Some posts; left = marks.left })
+          → AreMarked K all next done own large joins are_posts free (record { too_large = Some posts; left = marks.left })
       marked_large posts are first second third = record {
+        judged = judged_on (past (inr (inl second)));
         none_own = λ k there it. passed own first k there it (so_far.none_own k there it);
         too_large = (one, there_one, second, are);
         would_join = moved joins (passed joins third) marks.left so_far.would_join;
@@ -67,8 +91,9 @@ module _ (K : Type 0) (all own large joins : K → Type 0) (are_posts : K → Po
       }
 
       marked_left : (posts : Posts) → are_posts one posts → ¬ own one → ¬ large one → joins one → ¬ free
-          → AreMarked K all next own large joins are_posts free (record { too_large = marks.too_large; left = Some posts })
+          → AreMarked K all next done own large joins are_posts free (record { too_large = marks.too_large; left = Some posts })
       marked_left posts are first second third busy = record {
+        judged = judged_on (past (inr (inr third)));
         none_own = λ k there it. passed own first k there it (so_far.none_own k there it);
         too_large = moved large (passed large second) marks.too_large so_far.too_large;
         would_join = (one, there_one, third, are);
@@ -87,7 +112,7 @@ module _ (state : State) where
     within = λ it there. subst (λ (xs : List Fact). Contains xs it) is there;
     are_marked =
         subst (AreMarkedPosts state (λ (it : Fact). Contains rest it)) (sym none)
-        (begin_mark Fact (λ (it : Fact). Contains state.taken it) (IsJoining state) (IsPostTooLarge state) (WouldReduce state) ArePostsOf
+        (begin_mark Fact (λ (it : Fact). Contains state.taken it) (IsPostDone state) (IsJoining state) (IsPostTooLarge state) (WouldReduce state) ArePostsOf
         (MayJoin state) (λ (it : Fact). Contains rest it) (λ it there. subst (λ (xs : List Fact). Contains xs it) (sym is) there));
   }
 
@@ -104,17 +129,17 @@ module _ (state : State) where
     marked_posts : (finding : Finding) (free : Bool) → IsFoundAtPost state it finding → (IsTrue free → MayJoin state) → (MayJoin state → IsTrue free)
         → ¬ IsCase free finding → AreMarkedPosts state (λ (k : Fact). Contains tail k) (marked marks finding (posts_of it.post it.post))
     marked_posts finding.Done free found is_free may no_case =
-        marked_done Fact (λ (k : Fact). Contains state.taken k) (IsJoining state) (IsPostTooLarge state) (WouldReduce state) ArePostsOf (MayJoin state)
+        marked_done Fact (λ (k : Fact). Contains state.taken k) (IsPostDone state) (IsJoining state) (IsPostTooLarge state) (WouldReduce state) ArePostsOf (MayJoin state)
         (λ (k : Fact). Contains rest k) (λ (k : Fact). Contains tail k) marks so_far.are_marked it post_there post_passes
-        (done_not_joining state it found) (done_not_large state it found) (done_not_reduced state it found)
+        found (done_not_joining state it found) (done_not_large state it found) (done_not_reduced state it found)
     marked_posts finding.Own free found is_free may no_case = absurd (no_case tt)
     marked_posts (finding.Form form line) free found is_free may no_case =
-        marked_left Fact (λ (k : Fact). Contains state.taken k) (IsJoining state) (IsPostTooLarge state) (WouldReduce state) ArePostsOf (MayJoin state)
+        marked_left Fact (λ (k : Fact). Contains state.taken k) (IsPostDone state) (IsJoining state) (IsPostTooLarge state) (WouldReduce state) ArePostsOf (MayJoin state)
         (λ (k : Fact). Contains rest k) (λ (k : Fact). Contains tail k) marks so_far.are_marked it post_there post_passes
         (posts_of it.post it.post) refl (reducible_not_joining state it form found.reducible) (reduced_not_large state it form line found)
         (form, line, found) (λ it_may. no_case (may it_may))
     marked_posts finding.TooLarge free found is_free may no_case =
-        marked_large Fact (λ (k : Fact). Contains state.taken k) (IsJoining state) (IsPostTooLarge state) (WouldReduce state) ArePostsOf (MayJoin state)
+        marked_large Fact (λ (k : Fact). Contains state.taken k) (IsPostDone state) (IsJoining state) (IsPostTooLarge state) (WouldReduce state) ArePostsOf (MayJoin state)
         (λ (k : Fact). Contains rest k) (λ (k : Fact). Contains tail k) marks so_far.are_marked it post_there post_passes
         (posts_of it.post it.post) refl (large_not_joining state it found) found (large_not_reduced state it found)
 
@@ -137,7 +162,7 @@ module _ (state : State) where
 
   pub posts_end : (rest : List Fact) (marks : Marks) → length rest ≡ 0 → PostsSoFar state rest marks → AreMarkedPosts state no_posts marks
   posts_end [] marks none so_far =
-      marked_on Fact (λ (k : Fact). Contains state.taken k) (IsJoining state) (IsPostTooLarge state) (WouldReduce state) ArePostsOf (MayJoin state)
+      marked_on Fact (λ (k : Fact). Contains state.taken k) (IsPostDone state) (IsJoining state) (IsPostTooLarge state) (WouldReduce state) ArePostsOf (MayJoin state)
       (λ (k : Fact). Contains [] k) no_posts marks so_far.are_marked (λ k there later. none_listed k later)
   posts_end (x ∷ xs) marks none so_far = absurd (omega arith)
 
@@ -149,7 +174,7 @@ module _ (state : State) (count : ℕ) where
   pub pairs_begin : (marks : Marks) → marks ≡ no_marks → AreMarkedPairs state count (IsFrom 0 0) marks
   pairs_begin marks none =
       subst (AreMarkedPairs state count (IsFrom 0 0)) (sym none)
-      (begin_mark Places (IsWithin count) (λ (k : Places). ⊥) (IsPairTooLarge state) (WouldJoinPair state) (ArePostsOfPair state) (MayJoin state)
+      (begin_mark Places (IsWithin count) (IsPairDone state) (λ (k : Places). ⊥) (IsPairTooLarge state) (WouldJoinPair state) (ArePostsOfPair state) (MayJoin state)
       (IsFrom 0 0) each)
     where
       each : (k : Places) → IsWithin count k → IsFrom 0 0 k
@@ -157,7 +182,7 @@ module _ (state : State) (count : ℕ) where
 
   pub pairs_end : (last : ℕ) (marks : Marks) → count ≤ last → AreMarkedPairs state count (IsFrom 0 last) marks → AreMarkedPairs state count no_pairs marks
   pairs_end last marks all_rows so_far =
-      marked_on Places (IsWithin count) (λ (k : Places). ⊥) (IsPairTooLarge state) (WouldJoinPair state) (ArePostsOfPair state) (MayJoin state)
+      marked_on Places (IsWithin count) (IsPairDone state) (λ (k : Places). ⊥) (IsPairTooLarge state) (WouldJoinPair state) (ArePostsOfPair state) (MayJoin state)
       (IsFrom 0 last) no_pairs marks so_far none
     where
       none : (k : Places) → IsWithin count k → IsFrom 0 last k → ⊥
@@ -169,7 +194,7 @@ module _ (state : State) (count : ℕ) where
   pub row_end : (first second : ℕ) (marks : Marks) → second ≤ first → AreMarkedPairs state count (IsFrom first second) marks
       → AreMarkedPairs state count (IsFrom 0 (second + 1)) marks
   row_end first second marks whole so_far =
-      marked_on Places (IsWithin count) (λ (k : Places). ⊥) (IsPairTooLarge state) (WouldJoinPair state) (ArePostsOfPair state) (MayJoin state)
+      marked_on Places (IsWithin count) (IsPairDone state) (λ (k : Places). ⊥) (IsPairTooLarge state) (WouldJoinPair state) (ArePostsOfPair state) (MayJoin state)
       (IsFrom first second) (IsFrom 0 (second + 1)) marks so_far next
     where
       next : (k : Places) → IsWithin count k → IsFrom first second k → IsFrom 0 (second + 1) k
@@ -202,17 +227,17 @@ module _ (state : State) (count : ℕ) where
         → AreMarkedPairs state count (IsFrom (first + 1) second) (marked marks finding posts)
     unfolding places_of
     marked_pairs finding.Done free posts found may no_case are =
-        marked_done Places (IsWithin count) (λ (k : Places). ⊥) (IsPairTooLarge state) (WouldJoinPair state) (ArePostsOfPair state) (MayJoin state)
+        marked_done Places (IsWithin count) (IsPairDone state) (λ (k : Places). ⊥) (IsPairTooLarge state) (WouldJoinPair state) (ArePostsOfPair state) (MayJoin state)
         (IsFrom first second) (IsFrom (first + 1) second) marks so_far (places_of first second) (rising, within) pair_passes
-        (λ it. it) (done_pair_not_large state (places_of first second) found) (done_pair_not_joining state (places_of first second) found)
+        found (λ it. it) (done_pair_not_large state (places_of first second) found) (done_pair_not_joining state (places_of first second) found)
     marked_pairs finding.Own free posts found may no_case are = absurd found
     marked_pairs (finding.Form form line) free posts found may no_case are =
-        marked_left Places (IsWithin count) (λ (k : Places). ⊥) (IsPairTooLarge state) (WouldJoinPair state) (ArePostsOfPair state) (MayJoin state)
+        marked_left Places (IsWithin count) (IsPairDone state) (λ (k : Places). ⊥) (IsPairTooLarge state) (WouldJoinPair state) (ArePostsOfPair state) (MayJoin state)
         (IsFrom first second) (IsFrom (first + 1) second) marks so_far (places_of first second) (rising, within) pair_passes
         posts are (λ it. it) (joining_pair_not_large state (places_of first second) found.0 form line found.1) (found.0, form, line, found.1)
         (λ it_may. no_case (may it_may))
     marked_pairs finding.TooLarge free posts found may no_case are =
-        marked_large Places (IsWithin count) (λ (k : Places). ⊥) (IsPairTooLarge state) (WouldJoinPair state) (ArePostsOfPair state) (MayJoin state)
+        marked_large Places (IsWithin count) (IsPairDone state) (λ (k : Places). ⊥) (IsPairTooLarge state) (WouldJoinPair state) (ArePostsOfPair state) (MayJoin state)
         (IsFrom first second) (IsFrom (first + 1) second) marks so_far (places_of first second) (rising, within) pair_passes
         posts are (λ it. it) found (large_pair_not_joining state (places_of first second) found)
 

@@ -1,5 +1,5 @@
 -- Which nodes a scheme adds.
-use Rattle.std.proofs.Common.{◌≡◌, ◌⊎◌, inl, inr, Bool, true, false, true≢false, ltb, ℕ, ◌<◌, ◌≤◌, arith, List, [], ◌∷◌, ◌++◌, Option, Some, All, length, refl, sym, ap, ◌∙◌, subst}
+use Rattle.std.proofs.Common.{◌≡◌, ◌⊎◌, inl, inr, true≢false, ltb, ℕ, ◌<◌, ◌≤◌, arith, List, [], Some, All, length, sym, ◌∙◌, subst}
 use Rattle.std.specs.Prelude.{map, slice_get, Contains, Result, Ok, Err, IfOk}
 use Rattle.std.proofs.lemmas.Bool.{cases_Bool, ltb-true, ltb-false}
 use Rattle.std.proofs.lemmas.Option.{same_Some, slice_get_within, get_or_from_slice_get}
@@ -13,7 +13,7 @@ use Rattle.grind_term_graph.specs.Shape.{IsShaped, WellShaped, IsTable}
 use Rattle.grind_term_graph.specs.Beginnings.{BeginsWith}
 use Rattle.grind_term_graph.specs.Same.{is_same_node}
 use Rattle.grind_term_graph.specs.Placed.{placed}
-use Rattle.grind_term_graph.proofs.Placing.{placed-grows, placed-last, placed-present, placed-absent, same_node-found, Contains-slice_get}
+use Rattle.grind_term_graph.proofs.Placing.{placed-grows, placed-last, placed-present, placed-absent, same_node-found}
 use Rattle.grind_term_graph.proofs.Tables.{IsTable-push}
 use Rattle.grind_schemes.specs.declared.scheme.Scheme.{Scheme, Var, Apply', Row_of-Scheme, end_of-Scheme, more_of-Scheme, items-the_row-Scheme}
 use Rattle.grind_schemes.specs.Schemes.{scheme_sort, row_sorts, IsScheme, AreSchemes}

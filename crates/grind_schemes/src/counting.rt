@@ -47,7 +47,11 @@ fn find_scheme(
                 Ok(ids) => ids,
                 Err(want) => return Err(want),
             };
-            find_node(alloc, *head, *sort, ids.as_slice(), table, fresh)
+            let node = match node_at(alloc, *head, *sort, ids.as_slice()) {
+                Ok(node) => node,
+                Err(want) => return Err(want),
+            };
+            find_node(node, table, fresh)
         }
     }
 }
@@ -75,20 +79,19 @@ fn find_args(
     Ok(ids)
 }
 
-// The node of a head at these arguments, which goes last among the fresh nodes if it is new.
-fn find_node(
-    alloc: Global,
-    head: Head,
-    sort: SortId,
-    ids: &[NodeId],
-    table: &TermTable,
-    fresh: &mut List<Node>,
-) -> Result<NodeId, Memory>
+// The node of a head at these arguments.
+fn node_at(alloc: Global, head: Head, sort: SortId, ids: &[NodeId]) -> Result<Node, Memory>
     requires { length ids.now ≤ 16 }
-    ensures { IfOk result (λ id. (table.now.nodes ++ fresh.new, id) ≡ placed (table.now.nodes ++ fresh.old) (node_of head sort ids.now)) }
+    ensures { IfOk result (λ node. node ≡ node_of head sort ids.now) }
 {
     let args = Args::from_slice(alloc, ids)?;
-    let node = Node { head, sort, args };
+    Ok(Node { head, sort, args })
+}
+
+// The number of a node, which goes last among the fresh nodes if it is new.
+fn find_node(node: Node, table: &TermTable, fresh: &mut List<Node>) -> Result<NodeId, Memory>
+    ensures { IfOk result (λ id. (table.now.nodes ++ fresh.new, id) ≡ placed (table.now.nodes ++ fresh.old) node) }
+{
     match table.find(&node) {
         Some(id) => Ok(id),
         None => find_fresh(node, table, fresh),

@@ -1,9 +1,9 @@
 use Rattle.std.proofs.Common.{◌≡◌, ◌⊎◌, ap, ◌∙◌, subst, sym}
-use Rattle.grind_cli.specs.declared.status.Status.{Status}
-use Rattle.grind_cli.specs.declared.status.Status.TheVariants.{TheoryRefused, Memory}
-use Rattle.grind_cli.specs.Endings.{IsAnswer}
-use Rattle.grind_cli.proofs.EndingLemmas.{one_name, ends_complete, ends_refused}
-use Rattle.grind_cli.specs.Statuses.{status_of}
+use Rattle.grind_command.specs.declared.status.Status.{Status}
+use Rattle.grind_command.specs.declared.status.Status.TheVariants.{TheoryRefused, Memory}
+use Rattle.grind_answers.specs.Endings.{IsAnswer}
+use Rattle.grind_answers.proofs.EndingLemmas.{one_name, ends_complete, ends_refused}
+use Rattle.grind_command.specs.Statuses.{status_of}
 use Rattle.grind_cli.proofs.run.run.Goals as goal
 
 pub returns-clause-complete : goal.returns-clause-complete

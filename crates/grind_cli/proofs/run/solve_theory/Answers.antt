@@ -1,7 +1,7 @@
 use Rattle.std.proofs.Common.{List, ◌∙◌, subst, sym}
 use Rattle.std.proofs.lemmas.Bool.{false≢true}
 use Rattle.grind_schemes.specs.Goals.{GoalData}
-use Rattle.grind_cli.specs.Answers.{WritesReport, WritesPart}
+use Rattle.grind_answers.specs.Answers.{WritesReport, WritesPart}
 use Rattle.grind_cli.proofs.run.solve_theory.Goals as goal
 
 pub returns-in-Ok-true-clause-ends : goal.returns-in-Ok-true-clause-ends

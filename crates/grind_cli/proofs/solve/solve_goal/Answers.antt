@@ -2,7 +2,7 @@ use Rattle.std.proofs.Common.{[], subst}
 use Rattle.grind_term_graph.specs.Terms.{Terms}
 use Rattle.grind_term_graph.specs.Shape.{IsTable, IsBegun}
 use Rattle.grind_case_split.specs.Congruences.{IsRightFor}
-use Rattle.grind_cli.proofs.SolveLemmas.{Known, ProvesGoal-typed, not_entailed}
+use Rattle.grind_answers.proofs.SolveLemmas.{Known, ProvesGoal-typed, not_entailed}
 use Rattle.grind_cli.proofs.solve.solve_goal.Goals as goal
 
 pub returns-in-Closed : goal.returns-in-Closed
@@ -16,7 +16,7 @@ returns-in-Closed c =
       decided = c.ground_goals.ensures;
     } in
     let right = subst (IsRightFor c.args.lemmas.now c.args.goal.now) c.in-Closed.is c.in_ok-proof.ensures in
-    ProvesGoal-typed c.args.lemmas.now c.args.goal.now known c.in-Closed.proof right.0 right.1
+    ProvesGoal-typed c.args.lemmas.now c.args.goal.now known c.in-Closed.proof right.0 right.1.typed right.1.terms
 
 pub returns-in-Unexplored : goal.returns-in-Unexplored
 returns-in-Unexplored c =

@@ -1,4 +1,4 @@
-use Rattle.grind_cli.proofs.BlockLemmas.{printable, spells_block}
+use Rattle.grind_answers.proofs.BlockLemmas.{printable, spells_block}
 use Rattle.grind_cli.proofs.writing.block_of.Goals as goal
 
 pub render_block-requires : goal.render_block-requires

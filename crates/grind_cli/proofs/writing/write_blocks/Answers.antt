@@ -1,8 +1,8 @@
 use Rattle.std.proofs.Common.{◌≡◌, ◌&&◌, Bool, List, [], ◌∷◌, length, refl, subst, ◌∙◌, arith}
 use Rattle.grind_schemes.specs.Goals.{GoalData}
 use Rattle.grind_theory.specs.Theories.{AreDeclared}
-use Rattle.grind_cli.specs.Written.{AwaitsGoals}
-use Rattle.grind_cli.proofs.WrittenLemmas.{IsOnTheWay, on_the_way-step, on_the_way-end, on_the_way-stop, AwaitsGoals-next}
+use Rattle.grind_answers.specs.Written.{AwaitsGoals}
+use Rattle.grind_answers.proofs.WrittenLemmas.{IsOnTheWay, on_the_way-step, on_the_way-end, on_the_way-stop, AwaitsGoals-next}
 use Rattle.grind_cli.proofs.writing.write_blocks.Goals as goal
 
 nothing_left : {X : Type 0} (xs : List X) → length xs ≡ 0 → xs ≡ []

@@ -1,7 +1,7 @@
 use Rattle.std.proofs.Common.{◌≡◌, length}
 use Rattle.grind_theory.specs.Theories.{AreDeclared}
-use Rattle.grind_cli.specs.Written.{AwaitsGoals}
-use Rattle.grind_cli.proofs.WrittenLemmas.{IsOnTheWay}
+use Rattle.grind_answers.specs.Written.{AwaitsGoals}
+use Rattle.grind_answers.proofs.WrittenLemmas.{IsOnTheWay}
 use Rattle.grind_cli.proofs.writing.write_blocks.Given as goal
 
 abbrev pub invariant-loop-goal : goal.invariant-loop-goal

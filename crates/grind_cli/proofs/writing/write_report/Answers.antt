@@ -1,4 +1,4 @@
-use Rattle.grind_cli.proofs.WrittenLemmas.{WritesPart-blocks, WritesPart-end, WritesReport-whole, AwaitsGoals-all}
+use Rattle.grind_answers.proofs.WrittenLemmas.{WritesPart-blocks, WritesPart-end, WritesReport-whole, AwaitsGoals-all}
 use Rattle.grind_cli.proofs.writing.write_report.Goals as goal
 
 pub returns-in-Err-write_blocks-clause-err : goal.returns-in-Err-write_blocks-clause-err

@@ -49,7 +49,7 @@ returns-in_err-start-clause-overflow c =
     ∙ (λ i. quotient ((c.as_slice-2.ensures.value ∙ c.in_ok-whole.ensures) i) (c.lead_monomial-2.ensures.value i)) in
     let fits_first : FitsSigned w128 c.divided-first.result = search rules in
     let back_first = to_z-of_z w128 c.divided-first.result fits_first in
-    let told = simp (back_first, c.as_slice-3.ensures.value, c.terms.ensures.value, c.new-nothing.ensures) at c.add_multiples.ensures.overflow in
+    let told = simp (back_first, c.as_slice-3.ensures.value, c.terms.ensures.value, c.new.ensures) at c.add_multiples.ensures.overflow in
     let leads : IsErrOf c.add_multiples.result Overflow → IsSPolynomial c.args.a.now c.args.b.now (Err Overflow) = λ e. record {
       divisor = c.lead_divisor-h.result;
       divisor_is = c.lead_divisor-h.ensures.divisor;
@@ -74,7 +74,7 @@ returns-in_err-terms-clause-overflow c =
     ∙ (λ i. quotient ((c.as_slice-2.ensures.value ∙ c.in_ok-whole.ensures) i) (c.lead_monomial-2.ensures.value i)) in
     let fits_first : FitsSigned w128 c.divided-first.result = search rules in
     let back_first = to_z-of_z w128 c.divided-first.result fits_first in
-    let started = simp (back_first, c.as_slice-3.ensures.value, c.terms.ensures.value, c.new-nothing.ensures) at c.in_ok-start.ensures.ok in
+    let started = simp (back_first, c.as_slice-3.ensures.value, c.terms.ensures.value, c.new.ensures) at c.in_ok-start.ensures.ok in
     let fits_second : FitsSigned w128 c.divided-second.result = search rules in
     let back_second = to_z-of_z w128 c.divided-second.result fits_second in
     let told = simp (back_second, c.as_slice-4.ensures.value, c.terms-2.ensures.value) at c.add_multiples-2.ensures.overflow in
@@ -102,7 +102,7 @@ invariant_of-result c =
     ∙ (λ i. quotient ((c.as_slice-2.ensures.value ∙ c.in_ok-whole.ensures) i) (c.lead_monomial-2.ensures.value i)) in
     let fits_first : FitsSigned w128 c.divided-first.result = search rules in
     let back_first = to_z-of_z w128 c.divided-first.result fits_first in
-    let started = simp (back_first, c.as_slice-3.ensures.value, c.terms.ensures.value, c.new-nothing.ensures) at c.in_ok-start.ensures.ok in
+    let started = simp (back_first, c.as_slice-3.ensures.value, c.terms.ensures.value, c.new.ensures) at c.in_ok-start.ensures.ok in
     let fits_second : FitsSigned w128 c.divided-second.result = search rules in
     let back_second = to_z-of_z w128 c.divided-second.result fits_second in
     let told = simp (back_second, c.as_slice-4.ensures.value, c.terms-2.ensures.value) at c.in_ok-terms.ensures.ok in
@@ -127,7 +127,7 @@ returns-clause-ok c =
     ∙ (λ i. quotient ((c.as_slice-2.ensures.value ∙ c.in_ok-whole.ensures) i) (c.lead_monomial-2.ensures.value i)) in
     let fits_first : FitsSigned w128 c.divided-first.result = search rules in
     let back_first = to_z-of_z w128 c.divided-first.result fits_first in
-    let started = simp (back_first, c.as_slice-3.ensures.value, c.terms.ensures.value, c.new-nothing.ensures) at c.in_ok-start.ensures.ok in
+    let started = simp (back_first, c.as_slice-3.ensures.value, c.terms.ensures.value, c.new.ensures) at c.in_ok-start.ensures.ok in
     let fits_second : FitsSigned w128 c.divided-second.result = search rules in
     let back_second = to_z-of_z w128 c.divided-second.result fits_second in
     let told = simp (back_second, c.as_slice-4.ensures.value, c.terms-2.ensures.value) at c.in_ok-terms.ensures.ok in

@@ -10,33 +10,36 @@ use Rattle.grind_polynomials.proofs.multiples.add_multiple.Goals as goal
 
 pub returns-in_default-clause-overflow : goal.returns-in_default-clause-overflow
 returns-in_default-clause-overflow c =
-    let back = to_z-of_z w128 c.args.coefficient c.ranges.coefficient in
+    let fits_by : FitsSigned w128 c.args.by.now.coefficient = search rules in
+    let back = to_z-of_z w128 c.args.by.now.coefficient fits_by in
     let fits : FitsSigned w128 c.args.b.now.coefficient = search rules in
     let back_b = to_z-of_z w128 c.args.b.now.coefficient fits in
     let refused = simp (back, back_b) at c.in_default.ensures in
-    λ e. multiple-refused c.args.minus c.args.coefficient c.args.monomial.now c.args.b.now (all_of c.args.parts) Overflow refused
+    λ e. multiple-refused c.args.by.now.minus c.args.by.now.coefficient c.args.by.now.monomial.now c.args.b.now (all_of c.args.parts) Overflow refused
 
 pub returns-in_err-all-clause-overflow : goal.returns-in_err-all-clause-overflow
 returns-in_err-all-clause-overflow c =
-    let back = to_z-of_z w128 c.args.coefficient c.ranges.coefficient in
+    let fits_by : FitsSigned w128 c.args.by.now.coefficient = search rules in
+    let back = to_z-of_z w128 c.args.by.now.coefficient fits_by in
     let fits : FitsSigned w128 c.args.b.now.coefficient = search rules in
     let back_b = to_z-of_z w128 c.args.b.now.coefficient fits in
     let number_fits : FitsSigned w128 c.in-Some.number = search rules in
     let back_number = to_z-of_z w128 c.in-Some.number number_fits in
     let number = simp (back, back_b) at c.in-Some.ensures in
-    let whole = c.in_ok-whole.ensures ∙ ap (product c.args.monomial.now) c.as_slice.ensures.value in
-    let opened = multiple-goes_on c.args.minus c.args.coefficient c.args.monomial.now c.args.b.now (all_of c.args.parts) c.in-Some.number c.in_ok-whole.whole number whole in
-    let leads : IsErrOf c.put_behind.result Overflow → with_multiple c.args.minus c.args.coefficient c.args.monomial.now c.args.b.now (all_of c.args.parts) ≡ Err Overflow = λ e.
+    let whole = c.in_ok-whole.ensures ∙ ap (product c.args.by.now.monomial.now) c.as_slice.ensures.value in
+    let opened = multiple-goes_on c.args.by.now.minus c.args.by.now.coefficient c.args.by.now.monomial.now c.args.b.now (all_of c.args.parts) c.in-Some.number c.in_ok-whole.whole number whole in
+    let leads : IsErrOf c.put_behind.result Overflow → with_multiple c.args.by.now.minus c.args.by.now.coefficient c.args.by.now.monomial.now c.args.b.now (all_of c.args.parts) ≡ Err Overflow = λ e.
     opened ∙ (simp back_number at c.put_behind.ensures.overflow) e in search rules
 
 pub returns-clause-ok : goal.returns-clause-ok
 returns-clause-ok c =
-    let back = to_z-of_z w128 c.args.coefficient c.ranges.coefficient in
+    let fits_by : FitsSigned w128 c.args.by.now.coefficient = search rules in
+    let back = to_z-of_z w128 c.args.by.now.coefficient fits_by in
     let fits : FitsSigned w128 c.args.b.now.coefficient = search rules in
     let back_b = to_z-of_z w128 c.args.b.now.coefficient fits in
     let number_fits : FitsSigned w128 c.in-Some.number = search rules in
     let back_number = to_z-of_z w128 c.in-Some.number number_fits in
     let number = simp (back, back_b) at c.in-Some.ensures in
-    let whole = c.in_ok-whole.ensures ∙ ap (product c.args.monomial.now) c.as_slice.ensures.value in
-    let opened = multiple-goes_on c.args.minus c.args.coefficient c.args.monomial.now c.args.b.now (all_of c.args.parts) c.in-Some.number c.in_ok-whole.whole number whole in
+    let whole = c.in_ok-whole.ensures ∙ ap (product c.args.by.now.monomial.now) c.as_slice.ensures.value in
+    let opened = multiple-goes_on c.args.by.now.minus c.args.by.now.coefficient c.args.by.now.monomial.now c.args.b.now (all_of c.args.parts) c.in-Some.number c.in_ok-whole.whole number whole in
     opened ∙ simp back_number at c.in_ok-all.ensures.ok

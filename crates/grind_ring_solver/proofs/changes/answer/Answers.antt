@@ -2,7 +2,13 @@ use Rattle.std.proofs.Common.{sym, subst}
 use Rattle.grind_ring_solver.specs.declared.types.RingStep.{RingStep}
 use Rattle.grind_ring_solver.specs.Steps.{IsStep}
 use Rattle.grind_ring_solver.proofs.EqualLemmas.{after_equal}
+use Rattle.grind_ring_solver.proofs.RestLemmas.{joining_irreducible}
 use Rattle.grind_ring_solver.proofs.changes.answer.Goals as goal
+
+pub add_form-requires-clause-irreducible : goal.add_form-requires-clause-irreducible
+add_form-requires-clause-irreducible c =
+    let told = rw c.in-Adds.is at c.in_ok-decision.ensures in
+    joining_irreducible c.args.state.now c.in-Adds.rest c.in-Adds.line told.2
 
 pub returns-in_ok-note-in-Equal-clause-ok : goal.returns-in_ok-note-in-Equal-clause-ok
 returns-in_ok-note-in-Equal-clause-ok c =

@@ -8,4 +8,4 @@ returns-in_err-join_basis-clause-keeps c =
 pub returns-clause-keeps : goal.returns-clause-keeps
 returns-clause-keeps c =
     more_basis c.args.state.now c.requires.state c.args.it c.join_basis.new.basis c.in_ok-join_basis.ensures.ok c.requires.nonzero
-    c.requires.known
+    c.terms-terms.ensures.keeps c.requires.known

@@ -1,4 +1,6 @@
-use Rattle.std.proofs.Common.{◌+◌, ◌++◌, ℕ, List, rules, subst, sym, drop}
+use Rattle.std.proofs.Common.{◌≡◌, ◌+◌, ◌++◌, ℕ, List, IfOk, rules, subst, sym, drop}
+use Rattle.grind_term_graph.specs.declared.node.Node.{Node}
+use Rattle.grind_term_graph.specs.Placed.{placed}
 use Rattle.grind_schemes.specs.declared.scheme.Scheme.{the_lemmas}
 use Rattle.grind_schemes.proofs.InstanceLemmas.{IsLeft, IsLeft-first, IsLeft-next, IsLeft-last, drop_at, drop_all, SuitsEach-Apply, SuitsEach-item, fits_behind, built, BeginsWith-refl, BeginsWith-trans, BeginsWith-made}
 use Rattle.grind_schemes.proofs.counting.+finding.Goals as goal
@@ -53,16 +55,17 @@ find_scheme-find_args-requires t c = (
       c.in-Apply.args c.args.scheme.now c.deref.result.now c.in-Apply.is c.deref.ensures.value c.requires,
 )
 
-pub find_scheme-find_node-requires : goal.find_scheme-find_node-requires
-find_scheme-find_node-requires t c =
+pub find_scheme-node_at-requires : goal.find_scheme-node_at-requires
+find_scheme-node_at-requires t c =
     (fits_behind (c.args.table.now.nodes ++ c.args.fresh.now) (c.args.table.now.nodes ++ c.find_args.new.fresh)
     c.args.subst.now c.in-Ok.ids c.as_slice.result.now c.in-Apply.head c.in-Apply.sort c.in-Apply.args
     c.args.scheme.now c.deref.result.now c.in-Apply.is c.deref.ensures.value c.in-Ok.ensures
     c.as_slice.ensures.value c.requires).1
 
-pub find_scheme-returns-in-Ok : goal.find_scheme-returns-in-Ok
-find_scheme-returns-in-Ok t c =
+pub find_scheme-returns-in-Ok-node_at : goal.find_scheme-returns-in-Ok-node_at
+find_scheme-returns-in-Ok-node_at t c =
     let whole = built (c.args.table.now.nodes ++ c.args.fresh.now) (c.args.table.now.nodes ++ c.find_args.new.fresh)
     c.args.subst.now c.in-Ok.ids c.as_slice.result.now c.in-Apply.head c.in-Apply.sort c.in-Apply.args
     c.args.scheme.now c.deref.result.now c.in-Apply.is c.deref.ensures.value c.in-Ok.ensures c.as_slice.ensures.value in
-    rw whole at c.find_node.ensures
+    let found = subst (λ (node : Node). IfOk c.find_node.result (λ id. (c.args.table.now.nodes ++ c.find_node.new.fresh, id) ≡ placed (c.args.table.now.nodes ++ c.find_args.new.fresh) node)) c.in-Ok-node_at.ensures c.find_node.ensures in
+    rw whole at found

@@ -1,0 +1,4 @@
+pub mod BlockLemmas
+pub mod EndingLemmas
+pub mod SolveLemmas
+pub mod WrittenLemmas
