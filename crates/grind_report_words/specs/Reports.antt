@@ -50,3 +50,12 @@ pub record IsMalformedAt (bytes : List ℕ) (line : ℕ) : Type 0 where
   pub none : (report : Report) → ReportOf bytes report → ⊥
   pub before : (count : ℕ) × (line ≡ suc count) × BeginsWith bytes count
   pub here : BeginsWith bytes line → ⊥
+
+-- reading stops after these lines: each of them takes a step, and what follows is neither a line that takes one nor the end of a
+-- report
+pub record StopsAfter (bytes : List ℕ) (page : List Words) (rest : List ℕ) (there : State) : Type 0 where
+  pub lines : AreLinesOf bytes page rest
+  pub reads : Reads AtStart page there
+  pub no_step : (line : Words) (more : List ℕ) (next : State) → IsSolidLine line → rest ≡ line_bytes line ++ more
+      → Step there line next → ⊥
+  pub no_end : (report : Report) → there ≡ Done report → rest ≡ [] → ⊥
