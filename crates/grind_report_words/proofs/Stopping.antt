@@ -1,11 +1,11 @@
 -- Where reading stops, the next line is the malformed one.
-use Rattle.std.proofs.Common.{◌≡◌, ℕ, suc, ◌+◌, ◌<◌, ◌≤◌, List, [], ◌∷◌, ◌++◌, length, take, drop, All, refl, sym, ap, ◌∙◌, subst, append_assoc, arith, length-append, inl, inr}
+use Rattle.std.proofs.Common.{◌≡◌, ℕ, zero, suc, ◌+◌, ◌<◌, ◌≤◌, List, [], ◌∷◌, ◌++◌, length, take, drop, All, refl, sym, ap, ◌∙◌, subst, append_assoc, arith, length-append, inl, inr}
 use Rattle.std.specs.Prelude.{◌⊎◌}
-use Rattle.std.proofs.lemmas.List.{append-nil, take-append-drop, length-take-le, length-drop}
+use Rattle.std.proofs.lemmas.List.{take-append-drop, length-take-le}
 use Rattle.std.proofs.lemmas.List.Elements.{All-drop, All-head}
 use Rattle.grind_report_words.specs.declared.report.Report.{Report}
 use Rattle.grind_report_words.specs.Words.{Words}
-use Rattle.grind_report_words.specs.Steps.{State, AtStart, Done, Step, Reads}
+use Rattle.grind_report_words.specs.Steps.{State, AtStart, Done, Reads}
 use Rattle.grind_report_words.specs.Reports.{line_bytes, page_bytes, IsSolidLine, AreLinesOf, ArePage, ReportOf, BeginsWith, StopsAfter}
 use Rattle.grind_report_words.specs.Laws.{StopsAtMalformed}
 use Rattle.grind_report_words.proofs.NumberSpelling.{first_is, rest_is, cancel}
@@ -95,8 +95,8 @@ module _ (bytes : List ℕ) (page : List Words) (rest : List ℕ) (there : State
   no_report report (whole, lines, reads) = by (longer (length page) (length whole))
     where
       longer : (m n : ℕ) → (m ≤ n) ⊎ (n < m)
-      longer 0 n = inl (omega arith)
-      longer (suc m) 0 = inr (omega arith)
+      longer zero n = inl (omega arith)
+      longer (suc m) zero = inr (omega arith)
       longer (suc m) (suc n) = elim (longer m n) [ inl low ↦ inl (omega (arith, low)) | inr high ↦ inr (omega (arith, high)) ]
 
       by : (length page ≤ length whole) ⊎ (length whole < length page) → ⊥

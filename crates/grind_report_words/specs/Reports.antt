@@ -2,7 +2,7 @@
 use Rattle.std.specs.Prelude.{◌≡◌, ◌≢◌, ℕ, suc, List, [], ◌∷◌, ◌++◌, length, flat_map, All}
 use Rattle.grind_report_words.specs.declared.report.Report.{Report}
 use Rattle.grind_report_words.specs.Words.{Words}
-use Rattle.grind_report_words.specs.Steps.{AtStart, Done, Reads}
+use Rattle.grind_report_words.specs.Steps.{State, Step, AtStart, Done, Reads}
 
 -- the bytes of a line: its words with a space between two, and a line feed at the end
 abbrev pub line_bytes : Words → List ℕ
