@@ -284,7 +284,7 @@ all_end (Done report) room = ([], report, refl)
 
 -- ---- lines one after the other
 
-parted : (page more : List Words) (from there : State) → Reads from (page ++ more) there → (mid : State) × Reads from page mid × Reads mid more there
+pub parted : (page more : List Words) (from there : State) → Reads from (page ++ more) there → (mid : State) × Reads from page mid × Reads mid more there
 parted [] more from there reads = (from, refl, reads)
 parted (line ∷ page) more from there (mid, step, rest) =
     let inside = parted page more mid there rest in (inside.0, (mid, step, inside.1), inside.2)

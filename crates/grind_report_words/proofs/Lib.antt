@@ -8,4 +8,5 @@ pub mod BoardLemmas
 pub mod StepLemmas
 pub mod Endings
 pub mod Pages
+pub mod Stopping
 pub mod Cases

@@ -42,7 +42,7 @@ abbrev page_from : ℕ → List Words → List Words
 page_from b page = cond (nat_eq b 10) (([] ∷ []) ∷ page) (cond (nat_eq b 32) (with_word page) (with_byte b page))
 
 -- the lines of bytes
-abbrev page_of : List ℕ → List Words
+abbrev pub page_of : List ℕ → List Words
 page_of [] = []
 page_of (b ∷ bytes) = page_from b (page_of bytes)
 
@@ -79,7 +79,7 @@ page_of-page (line ∷ page) rest solid =
     ∙ page_of-line line (page_bytes page ++ rest) solid.0
     ∙ ap (λ (lines : List Words). line ∷ lines) (page_of-page page rest solid.1)
 
-lines_of : (bytes : List ℕ) (page : List Words) (rest : List ℕ) → AreLinesOf bytes page rest → page_of bytes ≡ page ++ page_of rest
+pub lines_of : (bytes : List ℕ) (page : List Words) (rest : List ℕ) → AreLinesOf bytes page rest → page_of bytes ≡ page ++ page_of rest
 lines_of bytes page rest lines = ap page_of lines.are ∙ page_of-page page rest (recursion_from_All IsSolidLine page lines.solid)
 
 -- bytes are one report at most
@@ -90,9 +90,10 @@ one_report bytes one other (page, lines, reads) (page_b, lines_b, reads_b) =
     one_end page_b AtStart (Done one) (Done other) (subst (λ (lines : List Words). ArePage lines one) same reads) reads_b in
     cc
 
--- where the first lines begin a report, so do fewer of them
-begins_down : (bytes : List ℕ) (fewer count : ℕ) → fewer ≤ count → BeginsWith bytes count → BeginsWith bytes fewer
-begins_down bytes fewer count below (page, rest, lines, long, begins) =
+-- fewer of the first lines are the first lines too
+pub fewer_lines : (bytes : List ℕ) (fewer : ℕ) (page : List Words) (rest : List ℕ) → AreLinesOf bytes page rest
+    → AreLinesOf bytes (take fewer page) (page_bytes (drop fewer page) ++ rest)
+fewer_lines bytes fewer page rest lines =
     let front : List Words = take fewer page in
     let back : List Words = drop fewer page in
     let whole : front ++ back ≡ page = take-append-drop fewer page in
@@ -100,12 +101,20 @@ begins_down bytes fewer count below (page, rest, lines, long, begins) =
     ap (λ (all : List Words). page_bytes all ++ rest) (sym whole)
     ∙ ap (λ (all : List ℕ). all ++ rest) (flat_map-append line_bytes front back)
     ∙ append_assoc (page_bytes front) (page_bytes back) rest in
+    record { are = lines.are ∙ spelled; solid = All-take IsSolidLine fewer page lines.solid }
+
+-- where the first lines begin a report, so do fewer of them
+begins_down : (bytes : List ℕ) (fewer count : ℕ) → fewer ≤ count → BeginsWith bytes count → BeginsWith bytes fewer
+begins_down bytes fewer count below (page, rest, lines, long, begins) =
+    let front : List Words = take fewer page in
+    let back : List Words = drop fewer page in
+    let whole : front ++ back ≡ page = take-append-drop fewer page in
     let reads : ArePage (front ++ (back ++ begins.0)) begins.1 =
     subst (λ (all : List Words). ArePage all begins.1) (append_assoc front back begins.0)
     (subst (λ (all : List Words). ArePage (all ++ begins.0) begins.1) (sym whole) begins.2) in (
       front,
       page_bytes back ++ rest,
-      record { are = lines.are ∙ spelled; solid = All-take IsSolidLine fewer page lines.solid },
+      fewer_lines bytes fewer page rest lines,
       length-take-le fewer page (omega (arith, below, long)),
       (back ++ begins.0, begins.1, reads),
     )

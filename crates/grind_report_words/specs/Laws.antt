@@ -1,9 +1,9 @@
 -- What holds of reports.
-use Rattle.std.specs.Prelude.{◌≡◌, ◌↔◌, ℕ, List}
+use Rattle.std.specs.Prelude.{◌≡◌, ◌↔◌, ◌+◌, ℕ, List, length}
 use Rattle.grind_report_words.specs.declared.report.Report.{Report}
 use Rattle.grind_report_words.specs.Words.{Words}
 use Rattle.grind_report_words.specs.Steps.{State, AtStart, Step, Reads}
-use Rattle.grind_report_words.specs.Reports.{ReportOf, BeginReport, IsMalformedAt}
+use Rattle.grind_report_words.specs.Reports.{ReportOf, BeginReport, IsMalformedAt, StopsAfter}
 
 -- a line leads to one end at most
 abbrev pub OneStep : Type 0
@@ -20,3 +20,8 @@ BeginningsEnd = (page : List Words) → BeginReport page ↔ ((there : State) ×
 -- bytes are malformed at one line at most
 abbrev pub OneMalformedLine : Type 0
 OneMalformedLine = (bytes : List ℕ) (one other : ℕ) → IsMalformedAt bytes one → IsMalformedAt bytes other → one ≡ other
+
+-- the line after those where reading stops is the malformed one
+abbrev pub StopsAtMalformed : Type 0
+StopsAtMalformed = (bytes : List ℕ) (page : List Words) (rest : List ℕ) (there : State) → StopsAfter bytes page rest there
+    → IsMalformedAt bytes (length page + 1)

@@ -2,7 +2,7 @@
 use Rattle.std.specs.Prelude.{◌≡◌, ◌≢◌, ℕ, suc, List, [], ◌∷◌, ◌++◌, length, flat_map, All}
 use Rattle.grind_report_words.specs.declared.report.Report.{Report}
 use Rattle.grind_report_words.specs.Words.{Words}
-use Rattle.grind_report_words.specs.Steps.{AtStart, Done, Reads}
+use Rattle.grind_report_words.specs.Steps.{State, Step, AtStart, Done, Reads}
 
 -- the bytes of a line: its words with a space between two, and a line feed at the end
 abbrev pub line_bytes : Words → List ℕ
@@ -50,3 +50,12 @@ pub record IsMalformedAt (bytes : List ℕ) (line : ℕ) : Type 0 where
   pub none : (report : Report) → ReportOf bytes report → ⊥
   pub before : (count : ℕ) × (line ≡ suc count) × BeginsWith bytes count
   pub here : BeginsWith bytes line → ⊥
+
+-- reading stops after these lines: each of them takes a step, and what follows is neither a line that takes one nor the end of a
+-- report
+pub record StopsAfter (bytes : List ℕ) (page : List Words) (rest : List ℕ) (there : State) : Type 0 where
+  pub lines : AreLinesOf bytes page rest
+  pub reads : Reads AtStart page there
+  pub no_step : (line : Words) (more : List ℕ) (next : State) → IsSolidLine line → rest ≡ line_bytes line ++ more
+      → Step there line next → ⊥
+  pub no_end : (report : Report) → there ≡ Done report → rest ≡ [] → ⊥

@@ -1,5 +1,5 @@
 //! What holds of reports. Each law is a call without a body: who makes the call knows the law.
-ghost use Rattle.grind_report_words.specs.Laws.{BeginningsEnd, OneMalformedLine, OneReport, OneStep};
+ghost use Rattle.grind_report_words.specs.Laws.{BeginningsEnd, OneMalformedLine, OneReport, OneStep, StopsAtMalformed};
 ghost use Rattle.grind_report_words.specs.StepCases.{EmptyReport, LeadingZero, MinusZero, PairOfNodes, TableLine, TermsOfNoGoal};
 
 /// Bytes are one report at most, since a line leads to one end at most.
@@ -16,6 +16,12 @@ pub fn beginnings_end()
 /// Bytes are malformed at one line at most.
 pub fn one_malformed_line()
     ensures { OneMalformedLine }
+{}
+
+/// Where each of the first lines takes a step, and what follows neither does nor ends a report, the next line is the malformed
+/// one: it says something else, is cut off, or is not there.
+pub fn stops_at_malformed()
+    ensures { StopsAtMalformed }
 {}
 
 /// Worked cases of lines.
