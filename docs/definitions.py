@@ -61,6 +61,7 @@ FILES = {
     "grind_patterns": ["Copies", "Patterns"],
     "grind_annotations": ["Written", "Giving", "Asking"],
     "grind_theory": ["States", "Faults", "Theories", "Kept", "Building", "Laws"],
+    "grind_report_words": ["Words", "Terms", "Claims", "RuleRows", "Lines", "Boards", "Steps", "Reports", "Laws", "StepCases"],
     "grind_report": ["Blocks", "Report"],
     "grind_command": ["Commands", "Statuses", "Notes"],
     "grind_theory_files": ["TheoryFiles", "Reading"],

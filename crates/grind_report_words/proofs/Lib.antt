@@ -1,0 +1,12 @@
+pub mod NumberSpelling
+pub mod FormSpelling
+pub mod ItemLemmas
+pub mod RuleLemmas
+pub mod PremiseLemmas
+pub mod LineLemmas
+pub mod BoardLemmas
+pub mod StepLemmas
+pub mod Endings
+pub mod Pages
+pub mod Stopping
+pub mod Cases

@@ -1,0 +1,10 @@
+pub mod Words
+pub mod Terms
+pub mod Claims
+pub mod RuleRows
+pub mod Lines
+pub mod Boards
+pub mod Steps
+pub mod Reports
+pub mod Laws
+pub mod StepCases
