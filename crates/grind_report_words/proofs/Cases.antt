@@ -39,9 +39,19 @@ table_line = record {
     after = codes "holds" ∷ codes "6" ∷ [];
     cut = record {
       are = refl;
-      first = All-from_recursion IsNoColon (codes "table" ∷ codes "2" ∷ codes "4" ∷ codes "6" ∷ codes "0" ∷ codes "12" ∷ [])
-          (above 116 (codes "able") (lit< tt), (below 50 [] (lit< tt), (below 52 [] (lit< tt), (below 54 [] (lit< tt),
-          (below 48 [] (lit< tt), (below 49 (codes "2") (lit< tt), tt))))));
+      first = All-from_recursion IsNoColon (codes "table" ∷ codes "2" ∷ codes "4" ∷ codes "6" ∷ codes "0" ∷ codes "12" ∷ []) (
+        above 116 (codes "able") (lit< tt),
+        (
+          below 50 [] (lit< tt),
+          (
+            below 52 [] (lit< tt),
+            (
+              below 54 [] (lit< tt),
+              (below 48 [] (lit< tt), (below 49 (codes "2") (lit< tt), tt)),
+            ),
+          ),
+        ),
+      );
     };
     rule_is = (
       (refl, All-from_recursion IsShort (0 ∷ 12 ∷ []) (lit< tt, (lit< tt, tt))),
