@@ -3,6 +3,7 @@ use Rattle.std.specs.Prelude.{ℕ, ◌≡◌, List, [], ◌∷◌, Some, slice_g
 use Rattle.std.proofs.Common.{sym, ap, ◌∙◌, subst, inl, inr}
 use Rattle.grind_term_graph.specs.declared.node.Node.{Node}
 use Rattle.grind_congruence.specs.declared.edge.Edge.{Edge}
+use Rattle.grind_congruence.specs.Congruence.{Congruence}
 use Rattle.grind_goal_equations.specs.Building.{IsFounded, AreFounded}
 use Rattle.grind_goal_equations.proofs.BuildingLemmas.{All-contains}
 use Rattle.std.specs.Option.{IsSomeAnd}
