@@ -1,4 +1,4 @@
-use Rattle.std.specs.Prelude.{List, ◌∷◌, All}
+use Rattle.std.specs.Prelude.{List, All}
 use Rattle.std.proofs.Common.{arith, sym, subst}
 use Rattle.std.proofs.lemmas.List.Elements.{All-cons}
 use Rattle.grind_class_joins.specs.declared.joins.Pair.{Pair}
