@@ -1,6 +1,10 @@
 //! Four nodes, by the public calls.
+ghost use Rattle.std.specs.Prelude.{All, IsTrue};
+ghost use Rattle.grind_class_joins.specs.Joins.{IsActivePair};
+
+use grind_class_joins::{Pair, merge_all};
 use grind_classes::{Classes, Merged};
-use grind_outside::Memory;
+use grind_outside::{List, Memory};
 use grind_term_graph::NodeId;
 use std::alloc::Global;
 use std::test::Fail;
@@ -63,5 +67,48 @@ fn joins_three_nodes(rt: HostRuntime) -> Result<(), Fail> {
     assert!(rt; is_class(&classes, 4, &all));
     let copy = classes.copy(alloc)?;
     assert!(rt; is_class(&copy, 3, &all));
+    Ok(())
+}
+
+// Whether all nodes of pairs are active.
+fn are_active(classes: &Classes, pairs: &[Pair]) -> bool
+    ensures { IsTrue result → All (λ pair. IsActivePair classes.now.lists pair) pairs.now }
+{
+    let mut rest = pairs;
+    while let Some((pair, tail)) = rest.split_first() {
+        if !classes.is_active(pair.left) {
+            return false;
+        }
+        if !classes.is_active(pair.right) {
+            return false;
+        }
+        rest = tail;
+    }
+    true
+}
+
+// How many nodes move where these pairs are merged, and None where they may not be.
+fn merged_all(alloc: Global, numbers: &[(u32, u32)]) -> Result<Option<u64>, Memory> {
+    let mut classes = three(alloc)?;
+    let mut pairs = List::new(alloc);
+    for (left, right) in numbers {
+        pairs.push(Pair {
+            left: NodeId::new(*left),
+            right: NodeId::new(*right),
+        })?;
+    }
+    if !are_active(&classes, pairs.as_slice()) {
+        return Ok(None);
+    }
+    let moved = merge_all(alloc, &mut classes, &pairs)?;
+    Ok(Some(moved))
+}
+
+#[test]
+fn joins_pairs_of_nodes(rt: HostRuntime) -> Result<(), Fail> {
+    let alloc = rt.alloc();
+    assert_eq!(rt; merged_all(alloc, &[(2, 3), (4, 2)])?, Some(2));
+    assert_eq!(rt; merged_all(alloc, &[(2, 3), (3, 2), (4, 4)])?, Some(1));
+    assert_eq!(rt; merged_all(alloc, &[(2, 5)])?, None);
     Ok(())
 }

@@ -1,5 +1,5 @@
 -- Chains of equalities along ways of edges.
-use Rattle.std.specs.Prelude.{◌≡◌, ℕ, List, [], ◌∷◌, All, Contains, length, get_or, ◌⊎◌}
+use Rattle.std.specs.Prelude.{◌≡◌, ℕ, List, [], ◌∷◌, All, Contains, length, get_or, ◌⊎◌, refl}
 use Rattle.std.proofs.Common.{arith, sym, subst, inl, inr}
 use Rattle.std.proofs.lemmas.List.Elements.{All-head, All-tail, All-same, All-weaker}
 use Rattle.std.proofs.lemmas.Option.{get_or_from_slice_get}
@@ -11,11 +11,11 @@ use Rattle.grind_congruence.specs.declared.edge.Edge.{Edge}
 use Rattle.grind_congruence.specs.Edges.{Passes, Leads}
 use Rattle.grind_proof_writer.specs.Lines.{IsReady, Tells, Appends}
 use Rattle.grind_needed_edges.specs.declared.pairs.Pair.{Pair}
+use Rattle.grind_needed_edges.specs.Needed.{PassesAt, IsAlong, IsOfWay}
 use Rattle.grind_needed_edges.specs.Numbered.{pair_of, HasNumber, KeepsNumbers}
-use Rattle.grind_needed_edges.specs.Needed.{PassesAt}
 use Rattle.grind_explain.specs.Deriving.{AreLines, Goes, IsKnown, IsOnWay}
 use Rattle.grind_proof_writer.proofs.LineLemmas.{Appends-none, Appends-through}
-use Rattle.grind_explain.proofs.NotedLemmas.{Goes-none, Goes-through}
+use Rattle.grind_explain.proofs.NotedLemmas.{Goes-none, Goes-through, Goes-weaker}
 
 -- what is known stays known
 pub IsKnown-stays : (edges : List Edge) (told later : List (Pair × ℕ)) (place : ℕ) → KeepsNumbers told later → IsKnown edges told place →
@@ -76,34 +76,74 @@ leads_after edges rest tail place here there b whole only leads =
 
 -- a chain on its way
 pub IsOnWay-start : (lemmas : Lemmas) (goal : GoalData) (old : Proof) (told : List (Pair × ℕ)) (branch : ℕ) (edges : List Edge) (places : List ℕ)
-    (number a from b : ℕ) → IsReady lemmas goal old branch → AreLines old branch told → Tells old branch number (Same a from) →
-    Leads edges places from b → All (IsKnown edges told) places →
-    IsOnWay lemmas goal old old told told branch edges places number a from b
-IsOnWay-start lemmas goal old told branch edges places number a from b ready lines tells leads all = record {
+    (number a from : ℕ) → IsReady lemmas goal old branch → AreLines old branch told → Tells old branch number (Same a from) →
+    All (IsKnown edges told) places →
+    IsOnWay (IsAlong edges a from places) lemmas goal old old told told branch edges places from places number a from
+IsOnWay-start lemmas goal old told branch edges places number a from ready lines tells all = record {
   appends = Appends-none lemmas goal old branch ready.typed;
   goes = Goes-none old told;
+  along = λ x y on. on;
   ready = ready;
   lines = lines;
   tells = tells;
-  leads = leads;
+  leads = λ b on. on;
   edges_known = all;
 }
 
+-- an equality of the first edge is one of the way
+along_first : (edges : List Edge) (rest tail : List ℕ) (a here place x y : ℕ) → rest ≡ place ∷ tail → IsAlong edges a here (place ∷ []) x y
+    → IsAlong edges a here rest x y
+along_first edges rest tail a here place x y whole (next, at, inl ends) =
+    subst (λ (places : List ℕ). IsAlong edges a here places x y) (sym whole) (next, at, inl ends)
+along_first edges rest tail a here place x y whole (next, at, inr none) = absurd none
+
+-- and so is one of the rest
+pub along_after : (edges : List Edge) (rest tail : List ℕ) (a here there place mid x y : ℕ) → rest ≡ place ∷ tail → PassesAt edges place here mid
+    → there ≡ mid → IsAlong edges a there tail x y → IsAlong edges a here rest x y
+along_after edges rest tail a here there place mid x y whole at is on =
+    subst (λ (places : List ℕ). IsAlong edges a here places x y) (sym whole)
+    (mid, at, inr (subst (λ (n : ℕ). IsAlong edges a n tail x y) is on))
+
+-- what a way of no edge tells
+pub of_way_none : (edges : List Edge) (places : List ℕ) (a x y : ℕ) → length places ≡ 0 → (x ≡ a) × (y ≡ a) → IsOfWay edges a places x y
+of_way_none edges [] a x y none is = is
+of_way_none edges (place ∷ places) a x y none is = absurd (omega arith)
+
+-- and of an edge and those after it
+of_way : (edges : List Edge) (places tail : List ℕ) (place a x y : ℕ) → places ≡ place ∷ tail → IsAlong edges a a (place ∷ tail) x y
+    → IsOfWay edges a places x y
+of_way edges places tail place a x y whole on = subst (λ (ps : List ℕ). IsOfWay edges a ps x y) (sym whole) on
+
+pub of_way_first : (edges : List Edge) (places tail : List ℕ) (place a x y : ℕ) → places ≡ place ∷ tail → (x ≡ a) × PassesAt edges place a y
+    → IsOfWay edges a places x y
+of_way_first edges places tail place a x y whole is = of_way edges places tail place a x y whole (y, is.1, inl (refl, inl is.0))
+
+pub of_way_after : (edges : List Edge) (places tail : List ℕ) (place a mid first there x y : ℕ) → places ≡ place ∷ tail → PassesAt edges place a mid
+    → first ≡ a → there ≡ mid → IsAlong edges first there tail x y → IsOfWay edges a places x y
+of_way_after edges places tail place a mid first there x y whole at first_is is on =
+    let from : IsAlong edges a there tail x y = subst (λ (n : ℕ). IsAlong edges n there tail x y) first_is on in
+    of_way edges places tail place a x y whole (along_after edges (place ∷ tail) tail a a there place mid x y refl at is from)
+
 -- and goes on by one edge
-pub IsOnWay-step : (lemmas : Lemmas) (goal : GoalData) (old now new : Proof) (told between later : List (Pair × ℕ)) (branch : ℕ)
-    (edges : List Edge) (rest tail : List ℕ) (number next a here there b place : ℕ) → rest ≡ place ∷ tail →
-    ((mid : ℕ) → PassesAt edges place here mid → there ≡ mid) → IsOnWay lemmas goal old now told between branch edges rest number a here b →
-    Appends lemmas goal now new branch → IsReady lemmas goal new branch → Goes now between new later → AreLines new branch later →
-    Tells new branch next (Same a there) → IsOnWay lemmas goal old new told later branch edges tail next a there b
-IsOnWay-step lemmas goal old now new told between later branch edges rest tail number next a here there b place whole only way grown ready goes
-    lines tells = record {
+pub IsOnWay-step : {Q : ℕ → ℕ → Type 0} (lemmas : Lemmas) (goal : GoalData) (old now new : Proof) (told between later : List (Pair × ℕ)) (branch : ℕ)
+    (edges : List Edge) (places : List ℕ) (from last : ℕ) (rest tail : List ℕ) (number next a here there place : ℕ) → Leads edges places from last →
+    rest ≡ place ∷ tail → ((mid : ℕ) → PassesAt edges place here mid → there ≡ mid) →
+    IsOnWay Q lemmas goal old now told between branch edges places from rest number a here →
+    Appends lemmas goal now new branch → IsReady lemmas goal new branch → Goes (IsAlong edges a here (place ∷ [])) now between new later →
+    AreLines new branch later → Tells new branch next (Same a there) →
+    IsOnWay Q lemmas goal old new told later branch edges places from tail next a there
+IsOnWay-step lemmas goal old now new told between later branch edges places from last rest tail number next a here there place whole is only way
+    grown ready goes lines tells = record {
       appends = Appends-through lemmas goal old now new branch way.appends grown;
-      goes = Goes-through old now new told between later way.goes goes;
+      goes = Goes-through old now new told between later way.goes
+          (Goes-weaker now new between later (λ x y on. way.along x y (along_first edges rest tail a here place x y is on)) goes);
+      along = λ x y on. let at = way_on edges rest tail place here last is (way.leads last whole) in
+          way.along x y (along_after edges rest tail a here there place at.0 x y is at.1 (only at.0 at.1) on);
       ready = ready;
       lines = lines;
       tells = tells;
-      leads = leads_after edges rest tail place here there b whole only way.leads;
-      edges_known = known_after edges between later rest tail place whole goes.keeps way.edges_known;
+      leads = λ b leads. leads_after edges rest tail place here there b is only (way.leads b leads);
+      edges_known = known_after edges between later rest tail place is goes.keeps way.edges_known;
     }
 
 -- a way without edges ends where it begins

@@ -1,12 +1,11 @@
 -- Lines that tell the edges which an equality needs.
-use Rattle.std.specs.Prelude.{◌≡◌, ◌≢◌, ℕ, zero, suc, ◌+◌, ◌<◌, Bool, List, [], ◌∷◌, ◌++◌, Option, Some, All, length, slice_get, get_or, refl}
+use Rattle.std.specs.Prelude.{◌≡◌, ◌≢◌, ℕ, ◌+◌, ◌<◌, Bool, List, [], ◌∷◌, ◌++◌, Some, All, Contains, length, slice_get, get_or, refl}
 use Rattle.std.specs.List.{AllZip}
-use Rattle.std.specs.Option.{IsSomeAnd}
 use Rattle.std.proofs.Common.{arith, sym, ap, ◌∙◌, subst, inl, inr, append_assoc}
 use Rattle.std.proofs.lemmas.Bool.{cases_eq}
 use Rattle.std.proofs.lemmas.List.{append-nil}
 use Rattle.std.proofs.lemmas.List.Elements.{All-nil, All-cons, All-head, All-tail}
-use Rattle.std.proofs.lemmas.Option.{slice_get-get_or, get_or_from_slice_get}
+use Rattle.std.proofs.lemmas.Option.{get_or_from_slice_get}
 use Rattle.grind_term_graph.specs.declared.node.Node.{Node}
 use Rattle.grind_term_graph.specs.Terms.{Terms}
 use Rattle.grind_schemes.specs.Goals.{GoalData}
@@ -26,10 +25,10 @@ use Rattle.grind_needed_edges.specs.declared.plan.Plan.{Plan}
 use Rattle.grind_needed_edges.specs.declared.why.Why.{Why}
 use Rattle.grind_needed_edges.specs.declared.why.Why.TheVariants as why
 use Rattle.grind_proof_writer.specs.Lines.{IsReady, IsUsable, Tells, Appends}
-use Rattle.grind_needed_edges.specs.Needed.{IsGround, AreGrounds, AreJoinedWithin}
-use Rattle.grind_needed_edges.specs.Plans.{IsNeeded, IsCovered, AreWays}
+use Rattle.grind_needed_edges.specs.Needed.{IsGround, AreGrounds, AreJoinedWithin, IsOfWay}
 use Rattle.grind_explain.specs.Explained.{IsReason, HasReasons}
-use Rattle.grind_needed_edges.specs.Numbered.{HasNumber, KeepsNumbers}
+use Rattle.grind_needed_edges.specs.Numbered.{pair_of, HasNumber, KeepsNumbers}
+use Rattle.grind_needed_edges.specs.Plans.{IsNeeded, IsCovered, AreWays, IsOnPlan, IsPlanned}
 use Rattle.grind_explain.specs.Deriving.{AreLines, Goes, IsKnown, AreKnown, IsGiven, AreTold, AreHalfTold, AreKnownSoFar}
 use Rattle.grind_proof_writer.proofs.LineLemmas.{Appends-none, Appends-through, Tells-stays, IsUsable-tells, claim_at-tells}
 use Rattle.grind_explain.proofs.ChainLemmas.{IsKnown-stays}
@@ -63,6 +62,7 @@ IsGiven-stays lemmas goal old new branch closure whys plan grown h = record {
   reasons = HasReasons-stays lemmas goal old new branch closure.edges whys (length plan.needed) grown h.reasons;
   covers = λ place. subst (λ (terms : Terms). IsCovered terms.nodes closure.edges whys plan place) (sym grown.terms) (h.covers place);
   ways = h.ways;
+  on_ways = h.on_ways;
 }
 
 -- the grounds of reasons
@@ -93,23 +93,24 @@ known_all edges needed told count (place ∷ places) h below is =
 
 -- one more pair is told
 pub AreHalfTold-step : (lemmas : Lemmas) (goal : GoalData) (old now new : Proof) (before told later : List (Pair × ℕ)) (branch : ℕ)
-    (closure : Congruence) (whys : List Why) (plan : Plan) (place : ℕ)
+    (closure : Congruence) (whys : List Why) (plan : Plan)
     (lefts rights left left_tail right right_tail numbers longer : List ℕ) (a b number : ℕ) →
     left ≡ a ∷ left_tail → right ≡ b ∷ right_tail → longer ≡ numbers ++ number ∷ [] →
-    AreHalfTold lemmas goal old now before told branch closure whys plan place lefts rights left right numbers →
-    Appends lemmas goal now new branch → IsReady lemmas goal new branch → Goes now told new later → AreLines new branch later →
+    AreHalfTold lemmas goal old now before told branch closure whys plan lefts rights left right numbers →
+    Appends lemmas goal now new branch → IsReady lemmas goal new branch → Goes (IsPlanned closure.edges whys plan) now told new later → AreLines new branch later →
     Tells new branch number (Same a b) →
-    AreHalfTold lemmas goal old new before later branch closure whys plan place lefts rights left_tail right_tail longer
-AreHalfTold-step lemmas goal old now new before told later branch closure whys plan place lefts rights left left_tail right right_tail numbers
+    AreHalfTold lemmas goal old new before later branch closure whys plan lefts rights left_tail right_tail longer
+AreHalfTold-step lemmas goal old now new before told later branch closure whys plan lefts rights left left_tail right right_tail numbers
     longer a b number left_is right_is longer_is h grown ready goes lines tells = record {
       appends = Appends-through lemmas goal old now new branch h.appends grown;
       goes = Goes-through old now new before told later h.goes goes;
       ready = ready;
       lines = lines;
       given = IsGiven-stays lemmas goal now new branch closure whys plan grown h.given;
-      edges_known = AreKnown-stays closure.edges plan.needed told later place goes.keeps h.edges_known;
+      place = h.place;
+      edges_known = AreKnown-stays closure.edges plan.needed told later h.place goes.keeps h.edges_known;
       active = All-others (IsActive closure.lists) left left_tail a left_is h.active;
-      joined = zip_others (Joins closure.edges place) left left_tail right right_tail a b left_is right_is h.joined;
+      joined = zip_others (Joins closure.edges h.place) left left_tail right right_tail a b left_is right_is h.joined;
       planned = zip_others (HasNumber plan.pairs) left left_tail right right_tail a b left_is right_is h.planned;
       told_all = λ final more behind rest.
           let whole : AreTold final branch (a ∷ left_tail) (b ∷ right_tail) (number ∷ more) =
@@ -131,12 +132,12 @@ none_told R proof branch (a ∷ left) right none h = absurd (omega arith)
 
 -- once no pair is left
 pub AreHalfTold-end : (lemmas : Lemmas) (goal : GoalData) (old now : Proof) (before told : List (Pair × ℕ)) (branch : ℕ) (closure : Congruence)
-    (whys : List Why) (plan : Plan) (place : ℕ) (lefts rights left right numbers : List ℕ) → length left ≡ 0 →
-    AreHalfTold lemmas goal old now before told branch closure whys plan place lefts rights left right numbers → AreTold now branch lefts rights numbers
-AreHalfTold-end lemmas goal old now before told branch closure whys plan place lefts rights left right numbers none h =
+    (whys : List Why) (plan : Plan) (lefts rights left right numbers : List ℕ) → length left ≡ 0 →
+    AreHalfTold lemmas goal old now before told branch closure whys plan lefts rights left right numbers → AreTold now branch lefts rights numbers
+AreHalfTold-end lemmas goal old now before told branch closure whys plan lefts rights left right numbers none h =
     subst (λ (ns : List ℕ). AreTold now branch lefts rights ns) (append-nil numbers)
     (h.told_all now [] (Appends-none lemmas goal now branch h.ready.typed)
-    (none_told (Joins closure.edges place) now branch left right none h.joined))
+    (none_told (Joins closure.edges h.place) now branch left right none h.joined))
 
 -- lines that tell pairs may be used
 pub AreTold-usable : (proof : Proof) (branch : ℕ) (lefts rights numbers : List ℕ) → AreTold proof branch lefts rights numbers →
@@ -198,7 +199,7 @@ IsCong-told old new branch edges count a b lefts rights numbers terms joined lef
 pub AreKnownSoFar-step : (lemmas : Lemmas) (goal : GoalData) (old now new : Proof) (before told later : List (Pair × ℕ)) (branch : ℕ)
     (closure : Congruence) (whys : List Why) (plan : Plan) (place : ℕ) →
     AreKnownSoFar lemmas goal old now before told branch closure whys plan place →
-    Appends lemmas goal now new branch → IsReady lemmas goal new branch → Goes now told new later → AreLines new branch later →
+    Appends lemmas goal now new branch → IsReady lemmas goal new branch → Goes (IsPlanned closure.edges whys plan) now told new later → AreLines new branch later →
     (IsNeeded plan.needed place → IsKnown closure.edges later place) →
     AreKnownSoFar lemmas goal old new before later branch closure whys plan (place + 1)
 AreKnownSoFar-step lemmas goal old now new before told later branch closure whys plan place h grown ready goes lines here = record {
@@ -237,7 +238,7 @@ pub AreHalfTold-start : (lemmas : Lemmas) (goal : GoalData) (proof : Proof) (tol
     IsReady lemmas goal proof branch → AreLines proof branch told → IsGiven closure whys plan branch proof →
     AreKnown closure.edges plan.needed told place → All (IsActive closure.lists) lefts → AllZip (Joins closure.edges place) lefts rights →
     AllZip (HasNumber plan.pairs) lefts rights →
-    AreHalfTold lemmas goal proof proof told told branch closure whys plan place lefts rights lefts rights numbers
+    AreHalfTold lemmas goal proof proof told told branch closure whys plan lefts rights lefts rights numbers
 AreHalfTold-start lemmas goal proof told branch closure whys plan place lefts rights numbers none ready lines given known active joined planned =
     record {
       appends = Appends-none lemmas goal proof branch ready.typed;
@@ -245,6 +246,7 @@ AreHalfTold-start lemmas goal proof told branch closure whys plan place lefts ri
       ready = ready;
       lines = lines;
       given = given;
+      place = place;
       edges_known = known;
       active = active;
       joined = joined;
@@ -261,18 +263,15 @@ way_read ways read_ways n read places slice same stands is slice_is =
 -- what a plan gives
 pub IsGiven-start : (closure : Congruence) (whys one two : List Why) (plan : Plan) (branch : ℕ) (proof : Proof) → one ≡ whys → two ≡ whys →
     Fits closure proof.terms.nodes → HasReasons proof branch closure.edges whys (length plan.needed) →
-    ((place : ℕ) → IsCovered proof.terms.nodes closure.edges one plan place) → AreWays closure.edges plan → IsGiven closure two plan branch proof
-IsGiven-start closure whys one two plan branch proof first second fits reasons covers ways = record {
+    ((place : ℕ) → IsCovered proof.terms.nodes closure.edges one plan place) → AreWays closure.edges plan → ((place : ℕ) → IsNeeded plan.needed place → IsOnPlan plan place)
+    → IsGiven closure two plan branch proof
+IsGiven-start closure whys one two plan branch proof first second fits reasons covers ways on_ways = record {
   fits = fits;
   reasons = subst (λ (ws : List Why). HasReasons proof branch closure.edges ws (length plan.needed)) (sym second) reasons;
   covers = λ place. subst (λ (ws : List Why). IsCovered proof.terms.nodes closure.edges ws plan place) (first ∙ sym second) (covers place);
   ways = ways;
+  on_ways = on_ways;
 }
-
--- a reason that is read stands there
-pub reason_stands : (whys : List Why) (number : ℕ) (reason : Why) → number < length whys → get_or whys number (why.Line 0) ≡ reason →
-    slice_get whys number ≡ Some reason
-reason_stands whys number reason below is = slice_get-get_or whys number (why.Line 0) below ∙ ap Some is
 
 -- a node of a class stands among the terms, which are still the same
 pub within_appends : (lemmas : Lemmas) (goal : GoalData) (old new : Proof) (branch : ℕ) (closure : Congruence) (a b : ℕ) →
@@ -284,3 +283,24 @@ within_appends lemmas goal old new branch closure a b grown fits both =
 pub IsKnown-read : (edges : List Edge) (told : List (Pair × ℕ)) (place : ℕ) (read : Edge) → slice_get edges place ≡ Some read →
     HasNumber told read.left read.right → IsKnown edges told place
 IsKnown-read edges told place read stands has = (read, stands, has)
+
+-- a congruence on a way that is planned
+pub IsPlanned-on : (edges : List Edge) (whys : List Why) (plan : Plan) (place : ℕ) (edge : Edge) → IsOnPlan plan place → slice_get edges place ≡ Some edge
+    → slice_get whys edge.why ≡ Some why.Congruence → IsPlanned edges whys plan edge.left edge.right
+IsPlanned-on edges whys plan place edge (a, b, number, places, has, stands, on) edge_is reason =
+    (a, b, number, places, has, stands, inr (edge, record { place = place; on = on; edge_is = edge_is; reason = reason }, refl, refl))
+
+-- an equality of a way that is planned
+pub IsPlanned-way : (edges read_edges : List Edge) (whys : List Why) (plan : Plan) (a b number : ℕ) (places read : List ℕ) (x y : ℕ)
+    → Contains plan.pairs (pair_of a b, number) → slice_get plan.ways number ≡ Some places → read ≡ places → read_edges ≡ edges
+    → IsOfWay read_edges a read x y → IsPlanned edges whys plan x y
+IsPlanned-way edges read_edges whys plan a b number places read x y has stands same edges_are h = (
+  a,
+  b,
+  number,
+  places,
+  has,
+  stands,
+  inl (subst (λ (ps : List ℕ). IsOfWay edges a ps x y) same
+      (subst (λ (es : List Edge). IsOfWay es a read x y) edges_are h)),
+)

@@ -13,28 +13,28 @@ use Rattle.grind_proof_writer.specs.Lines.{Tells, Appends, EndsWith}
 use Rattle.grind_proof_writer.proofs.ListLemmas.{behind_first}
 use Rattle.grind_proof_writer.proofs.LineLemmas.{Tells-stays, Tells-last}
 use Rattle.grind_needed_edges.specs.declared.pairs.Pair.{Pair}
-use Rattle.grind_explain.specs.Explained.{DifferInClaims, IsBrief}
+use Rattle.grind_explain.specs.Explained.{DifferInClaims, IsLineAmong, IsBrief}
 use Rattle.grind_needed_edges.specs.Numbered.{pair_of, HasNumber, HasNoNumber, IsNoted}
 use Rattle.grind_explain.specs.Deriving.{AreLines, IsFresh, Goes}
 use Rattle.grind_needed_edges.proofs.PairLemmas.{KeepsNumbers-put, KeepsNumbers-noted, last_entry, entry_cases}
 
 -- nothing written
-pub Goes-none : (proof : Proof) (told : List (Pair × ℕ)) → Goes proof told proof told
-Goes-none proof told = record {
+pub Goes-none : {Q : ℕ → ℕ → Type 0} (proof : Proof) (told : List (Pair × ℕ)) → Goes Q proof told proof told
+Goes-none {Q = Q} proof told = record {
   keeps = λ pair n has. has;
   lines = [];
   after = sym (append-nil proof.lines);
-  fresh = All-nil (IsFresh told told);
+  fresh = All-nil (IsFresh Q told told);
   differ = tt;
 }
 
 -- a line of before is noted
-pub Goes-noted : (proof : Proof) (told later : List (Pair × ℕ)) (a b n : ℕ) → IsNoted told a b n later → Goes proof told proof later
-Goes-noted proof told later a b n noted = record {
+pub Goes-noted : {Q : ℕ → ℕ → Type 0} (proof : Proof) (told later : List (Pair × ℕ)) (a b n : ℕ) → IsNoted told a b n later → Goes Q proof told proof later
+Goes-noted {Q = Q} proof told later a b n noted = record {
   keeps = KeepsNumbers-noted told later a b n noted;
   lines = [];
   after = sym (append-nil proof.lines);
-  fresh = All-nil (IsFresh told later);
+  fresh = All-nil (IsFresh Q told later);
   differ = tt;
 }
 
@@ -45,7 +45,7 @@ second_same : (a b c d : ℕ) → Same a b ≡ Same c d → b ≡ d
 second_same a b c d e = cc
 
 -- a line for which nothing was noted yet claims something else than one that was
-differs : (told between later : List (Pair × ℕ)) (line other : Line) → IsFresh told between line → IsFresh between later other →
+differs : {Q : ℕ → ℕ → Type 0} (told between later : List (Pair × ℕ)) (line other : Line) → IsFresh Q told between line → IsFresh Q between later other →
     ¬ (other.claim ≡ line.claim)
 differs told between later line other first second same =
     let claims : Same first.0 first.1 ≡ Same second.0 second.1 = sym first.2 ∙ sym same ∙ second.2 in
@@ -55,33 +55,44 @@ differs told between later line other first second same =
     subst (λ (x : ℕ). HasNumber between x second.1) left (subst (λ (y : ℕ). HasNumber between first.0 y) right first.4) in
     second.3 has.0 has.1
 
-differ_append : (told between later : List (Pair × ℕ)) (one two : List Line) → All (IsFresh told between) one → All (IsFresh between later) two →
+differ_append : {Q : ℕ → ℕ → Type 0} (told between later : List (Pair × ℕ)) (one two : List Line) → All (IsFresh Q told between) one → All (IsFresh Q between later) two →
     DifferInClaims one → DifferInClaims two → DifferInClaims (one ++ two)
 differ_append told between later [] two fresh more differ others = others
-differ_append told between later (line ∷ one) two fresh more differ others =
+differ_append {Q = Q} told between later (line ∷ one) two fresh more differ others =
     let P : Line → Type 0 = λ other. ¬ (other.claim ≡ line.claim) in
-    let here : IsFresh told between line = All-head (IsFresh told between) line one fresh in (
-      All-append P one two differ.0 (All-weaker (IsFresh between later) P (λ other new. differs told between later line other here new) two more),
-      differ_append told between later one two (All-tail (IsFresh told between) line one fresh) more differ.1 others,
+    let here : IsFresh Q told between line = All-head (IsFresh Q told between) line one fresh in (
+      All-append P one two differ.0 (All-weaker (IsFresh Q between later) P (λ other new. differs told between later line other here new) two more),
+      differ_append told between later one two (All-tail (IsFresh Q told between) line one fresh) more differ.1 others,
     )
 
 -- more written after what was written
-pub Goes-through : (old mid new : Proof) (told between later : List (Pair × ℕ)) → Goes old told mid between → Goes mid between new later →
-    Goes old told new later
-Goes-through old mid new told between later first second =
+pub Goes-through : {Q : ℕ → ℕ → Type 0} (old mid new : Proof) (told between later : List (Pair × ℕ)) → Goes Q old told mid between → Goes Q mid between new later →
+    Goes Q old told new later
+Goes-through {Q = Q} old mid new told between later first second =
     let one : List Line = first.lines in
     let two : List Line = second.lines in
     record {
       keeps = λ pair n has. second.keeps pair n (first.keeps pair n has);
       lines = one ++ two;
       after = second.after ∙ ap (λ (lines : List Line). lines ++ two) first.after ∙ append_assoc old.lines one two;
-      fresh = All-append (IsFresh told later) one two
-          (All-weaker (IsFresh told between) (IsFresh told later)
-          (λ line h. (h.0, h.1, h.2, h.3, (h.4.0, second.keeps (pair_of h.0 h.1) h.4.0 h.4.1))) one first.fresh)
-          (All-weaker (IsFresh between later) (IsFresh told later)
-          (λ line h. (h.0, h.1, h.2, (λ n has. h.3 n (first.keeps (pair_of h.0 h.1) n has)), h.4)) two second.fresh);
+      fresh = All-append (IsFresh Q told later) one two
+          (All-weaker (IsFresh Q told between) (IsFresh Q told later)
+          (λ line h. (h.0, h.1, h.2, h.3, (h.4.0, second.keeps (pair_of h.0 h.1) h.4.0 h.4.1), h.5)) one first.fresh)
+          (All-weaker (IsFresh Q between later) (IsFresh Q told later)
+          (λ line h. (h.0, h.1, h.2, (λ n has. h.3 n (first.keeps (pair_of h.0 h.1) n has)), h.4, h.5)) two second.fresh);
       differ = differ_append told between later one two first.fresh second.fresh first.differ second.differ;
     }
+
+-- what is among certain equalities is among more
+pub Goes-weaker : {P Q : ℕ → ℕ → Type 0} (old new : Proof) (told later : List (Pair × ℕ)) → ((x y : ℕ) → P x y → Q x y) → Goes P old told new later →
+    Goes Q old told new later
+Goes-weaker {P = P} {Q = Q} old new told later weaker goes = record {
+  keeps = goes.keeps;
+  lines = goes.lines;
+  after = goes.after;
+  fresh = All-weaker (IsFresh P told later) (IsFresh Q told later) (λ line h. (h.0, h.1, h.2, h.3, h.4, weaker h.0 h.1 h.5)) goes.lines goes.fresh;
+  differ = goes.differ;
+}
 
 some_at : {X : Type 0} (P : X → Type 0) (found : Option X) (x : X) → found ≡ Some x → IsSomeAnd found P → P x
 some_at {X = X} P found x is h = subst (λ (o : Option X). IsSomeAnd o P) is h
@@ -93,10 +104,10 @@ one_line P olds (line ∷ []) e h = (line, refl, some_at P (slice_get (olds ++ l
 one_line P olds (line ∷ other ∷ more) e h = let n = length-append olds (line ∷ other ∷ more) in absurd (omega (arith, n, e))
 
 -- a line is written, and is noted for its pair
-pub Goes-line : (lemmas : Lemmas) (goal : GoalData) (old new : Proof) (branch : ℕ) (told later : List (Pair × ℕ)) (a b number : ℕ) →
+pub Goes-line : {Q : ℕ → ℕ → Type 0} (lemmas : Lemmas) (goal : GoalData) (old new : Proof) (branch : ℕ) (told later : List (Pair × ℕ)) (a b number : ℕ) →
     Appends lemmas goal old new branch → number ≡ length old.lines → EndsWith new branch number (Same a b) → HasNoNumber told a b →
-    later ≡ told ++ (pair_of a b, number) ∷ [] → Goes old told new later
-Goes-line lemmas goal old new branch told later a b number grown is ends none noted =
+    later ≡ told ++ (pair_of a b, number) ∷ [] → Q a b → Goes Q old told new later
+Goes-line {Q = Q} lemmas goal old new branch told later a b number grown is ends none noted among =
     let more : List Line = grown.lines.0 in
     let P : Line → Type 0 = λ it. (it.branch ≡ branch) × (it.claim ≡ Same a b) in
     let count : length (old.lines ++ more) ≡ length old.lines + 1 = ap length (sym grown.lines.1) ∙ ends.0 ∙ ap (λ n. n + 1) is in
@@ -110,7 +121,7 @@ Goes-line lemmas goal old new branch told later a b number grown is ends none no
       keeps = KeepsNumbers-put told later (pair_of a b, number) noted;
       lines = it.0 ∷ [];
       after = grown.lines.1 ∙ ap (λ (lines : List Line). old.lines ++ lines) it.1;
-      fresh = All-cons (IsFresh told later) it.0 [] (a, b, it.2.1, none, has) (All-nil (IsFresh told later));
+      fresh = All-cons (IsFresh Q told later) it.0 [] (a, b, it.2.1, none, has, among) (All-nil (IsFresh Q told later));
       differ = (All-nil (λ (other : Line). ¬ (other.claim ≡ it.0.claim)), tt);
     }
 
@@ -148,15 +159,27 @@ AreLines-line lemmas goal old new branch told later a b number grown ends h note
     (Tells-last new branch number (Same a b) ends) noted
 
 -- an explanation with its last lines
-pub IsBrief-ends : (lemmas : Lemmas) (goal : GoalData) (old mid new : Proof) (branch : ℕ) (told later : List (Pair × ℕ)) → Goes old told mid later →
-    Appends lemmas goal mid new branch → length new.lines ≤ length mid.lines + 2 → IsBrief old new
-IsBrief-ends lemmas goal old mid new branch told later goes grown short =
+pub IsBrief-ends : {Q : ℕ → ℕ → Type 0} (lemmas : Lemmas) (goal : GoalData) (old mid new : Proof) (branch : ℕ) (told later : List (Pair × ℕ)) →
+    Goes Q old told mid later → Appends lemmas goal mid new branch → length new.lines ≤ length mid.lines + 2 → IsBrief Q old new
+IsBrief-ends {Q = Q} lemmas goal old mid new branch told later goes grown short =
     let more : List Line = grown.lines.0 in
     let count : length new.lines ≡ length mid.lines + length more = ap length grown.lines.1 ∙ length-append mid.lines more in
     record {
       lines = goes.lines;
       last = more;
       after = grown.lines.1 ∙ ap (λ (lines : List Line). lines ++ more) goes.after ∙ append_assoc old.lines goes.lines more;
+      among = All-weaker (IsFresh Q told later) (IsLineAmong Q) (λ line h. (h.0, h.1, h.2, h.5)) goes.lines goes.fresh;
       differ = goes.differ;
       short = omega (arith, count, short);
     }
+
+-- the same among more equalities
+pub IsBrief-weaker : {P Q : ℕ → ℕ → Type 0} (old new : Proof) → ((a b : ℕ) → P a b → Q a b) → IsBrief P old new → IsBrief Q old new
+IsBrief-weaker {P = P} {Q = Q} old new weaker brief = record {
+  lines = brief.lines;
+  last = brief.last;
+  after = brief.after;
+  among = All-weaker (IsLineAmong P) (IsLineAmong Q) (λ line h. (h.0, h.1, h.2, weaker h.0 h.1 h.3)) brief.lines brief.among;
+  differ = brief.differ;
+  short = brief.short;
+}

@@ -26,10 +26,16 @@ abbrev pub DifferInClaims : List Line → Type 0
 DifferInClaims [] = Unit {0}
 DifferInClaims (line ∷ lines) = All (λ (other : Line). ¬ (other.claim ≡ line.claim)) lines × DifferInClaims lines
 
--- the new proof has lines after those of the old one no two of which claim the same, and at most two more
-pub record IsBrief (old new : Proof) : Type 0 where
+-- the line claims one of certain equalities
+abbrev pub IsLineAmong : (ℕ → ℕ → Type 0) → Line → Type 0
+IsLineAmong Among line = (a : ℕ) × (b : ℕ) × (line.claim ≡ Same a b) × Among a b
+
+-- the new proof has lines after those of the old one that claim certain equalities, no two of them the same, and at most two
+-- lines more
+pub record IsBrief (Among : ℕ → ℕ → Type 0) (old new : Proof) : Type 0 where
   pub lines : List Line
   pub last : List Line
   pub after : new.lines ≡ old.lines ++ (lines ++ last)
+  pub among : All (IsLineAmong Among) lines
   pub differ : DifferInClaims lines
   pub short : length last ≤ 2

@@ -1,11 +1,11 @@
 //! Equalities along ways of edges.
-ghost use Rattle.std.specs.Prelude.{◌≡◌, ℕ, ◌<◌, ◌⊎◌, All, IfOk, OnOk, length};
+ghost use Rattle.std.specs.Prelude.{◌≡◌, ℕ, ◌<◌, ◌⊎◌, [], ◌∷◌, All, IfOk, OnOk, length};
 ghost use Rattle.grind_claims.specs.declared.claim.Claim.TheVariants.{Same};
 ghost use Rattle.grind_congruence.specs.Edges.{Passes, Leads};
 ghost use Rattle.grind_proof_writer.specs.Lines.{Tells};
 ghost use Rattle.grind_proof_writer.specs.Writing.{CanWrite, Writes, IsTold};
+ghost use Rattle.grind_needed_edges.specs.Needed.{PassesAt, IsAlong, IsOfWay};
 ghost use Rattle.grind_needed_edges.specs.Numbered.{HasNumber};
-ghost use Rattle.grind_needed_edges.specs.Needed.{PassesAt};
 ghost use Rattle.grind_explain.specs.Deriving.{IsKnown, AreLines, Goes};
 
 use grind_congruence::Edge;
@@ -32,25 +32,25 @@ impl<'a> Way<'a> {
         told: &mut Pairs,
         places: &[u32],
         a: NodeId,
-        b: NodeId,
     ) -> Result<u32, Memory>
         requires ready { CanWrite self.now.writer.now proof.old }
         requires lines { AreLines proof.old self.now.writer.now.branch told.old }
         requires within { a < length proof.old.terms.nodes }
         requires known { All (IsKnown self.now.edges.now told.old) places.now }
-        requires leads { Leads self.now.edges.now places.now a b }
+        requires leads { (b : ℕ) × Leads self.now.edges.now places.now a b }
         ensures writes { Writes self.now.writer.now proof.old proof.new }
         ensures ready { CanWrite self.now.writer.now proof.new }
-        ensures goes { OnOk result (Goes proof.old told.old proof.new told.new) }
+        ensures goes { OnOk result (Goes (IsOfWay self.now.edges.now a places.now) proof.old told.old proof.new told.new) }
         ensures lines { OnOk result (AreLines proof.new self.now.writer.now.branch told.new) }
-        ensures tells { IfOk result (λ number. Tells proof.new self.now.writer.now.branch number (Same a b)) }
+        ensures tells { IfOk result (λ number. (b : ℕ) → Leads self.now.edges.now places.now a b
+            → Tells proof.new self.now.writer.now.branch number (Same a b)) }
     {
         let Some((place, tail)) = places.split_first() else {
             let number = itself(self.writer, proof, told, a)?;
             return Ok(number);
         };
         let first = self.passed(proof, told, *place, a)?;
-        let last = self.go_along(proof, told, tail, &first, b)?;
+        let last = self.go_along(proof, told, tail, &first)?;
         Ok(last)
     }
 
@@ -61,18 +61,19 @@ impl<'a> Way<'a> {
         told: &mut Pairs,
         places: &[u32],
         first: &Equality,
-        _b: NodeId,
     ) -> Result<u32, Memory>
         requires ready { CanWrite self.now.writer.now proof.old }
         requires lines { AreLines proof.old self.now.writer.now.branch told.old }
         requires first { IsTold self.now.writer.now proof.old first.now }
         requires known { All (IsKnown self.now.edges.now told.old) places.now }
-        requires leads { Leads self.now.edges.now places.now first.now.right _b }
+        requires leads { (b : ℕ) × Leads self.now.edges.now places.now first.now.right b }
         ensures writes { Writes self.now.writer.now proof.old proof.new }
         ensures ready { CanWrite self.now.writer.now proof.new }
-        ensures goes { OnOk result (Goes proof.old told.old proof.new told.new) }
+        ensures goes { OnOk result (Goes (IsAlong self.now.edges.now first.now.left first.now.right places.now)
+            proof.old told.old proof.new told.new) }
         ensures lines { OnOk result (AreLines proof.new self.now.writer.now.branch told.new) }
-        ensures tells { IfOk result (λ number. Tells proof.new self.now.writer.now.branch number (Same first.now.left _b)) }
+        ensures tells { IfOk result (λ number. (b : ℕ) → Leads self.now.edges.now places.now first.now.right b
+            → Tells proof.new self.now.writer.now.branch number (Same first.now.left b)) }
     {
         let a = first.left;
         let mut number = first.line;
@@ -107,7 +108,8 @@ impl<'a> Way<'a> {
         requires passes { (next : ℕ) × PassesAt self.now.edges.now place so_far.now.right next }
         ensures writes { Writes self.now.writer.now proof.old proof.new }
         ensures ready { CanWrite self.now.writer.now proof.new }
-        ensures goes { OnOk result (Goes proof.old told.old proof.new told.new) }
+        ensures goes { OnOk result (Goes (IsAlong self.now.edges.now so_far.now.left so_far.now.right (place ∷ []))
+            proof.old told.old proof.new told.new) }
         ensures lines { OnOk result (AreLines proof.new self.now.writer.now.branch told.new) }
         ensures told { IfOk result (λ it. IsTold self.now.writer.now proof.new it) }
         ensures left { IfOk result (λ it. it.left ≡ so_far.now.left) }
@@ -136,7 +138,8 @@ impl<'a> Way<'a> {
         requires passes { (next : ℕ) × PassesAt self.now.edges.now place here next }
         ensures writes { Writes self.now.writer.now proof.old proof.new }
         ensures ready { CanWrite self.now.writer.now proof.new }
-        ensures goes { OnOk result (Goes proof.old told.old proof.new told.new) }
+        ensures goes { OnOk result (Goes (λ x y. (x ≡ here) × PassesAt self.now.edges.now place here y)
+            proof.old told.old proof.new told.new) }
         ensures lines { OnOk result (AreLines proof.new self.now.writer.now.branch told.new) }
         ensures told { IfOk result (λ it. IsTold self.now.writer.now proof.new it) }
         ensures left { IfOk result (λ it. it.left ≡ here) }
@@ -172,7 +175,7 @@ fn itself(writer: &Writer, proof: &mut Proof, told: &mut Pairs, a: NodeId) -> Re
     requires within { a < length proof.old.terms.nodes }
     ensures writes { Writes writer.now proof.old proof.new }
     ensures ready { CanWrite writer.now proof.new }
-    ensures goes { OnOk result (Goes proof.old told.old proof.new told.new) }
+    ensures goes { OnOk result (Goes (λ x y. (x ≡ a) × (y ≡ a)) proof.old told.old proof.new told.new) }
     ensures lines { OnOk result (AreLines proof.new writer.now.branch told.new) }
     ensures tells { IfOk result (λ number. Tells proof.new writer.now.branch number (Same a a)) }
 {
@@ -197,7 +200,7 @@ fn turned(
     requires either { HasNumber told.old here next ⊎ HasNumber told.old next here }
     ensures writes { Writes writer.now proof.old proof.new }
     ensures ready { CanWrite writer.now proof.new }
-    ensures goes { OnOk result (Goes proof.old told.old proof.new told.new) }
+    ensures goes { OnOk result (Goes (λ x y. (x ≡ here) × (y ≡ next)) proof.old told.old proof.new told.new) }
     ensures lines { OnOk result (AreLines proof.new writer.now.branch told.new) }
     ensures tells { IfOk result (λ number. Tells proof.new writer.now.branch number (Same here next)) }
 {
@@ -229,7 +232,8 @@ fn joined(
     requires meets { first.now.right ≡ second.now.left }
     ensures writes { Writes writer.now proof.old proof.new }
     ensures ready { CanWrite writer.now proof.new }
-    ensures goes { OnOk result (Goes proof.old told.old proof.new told.new) }
+    ensures goes { OnOk result (Goes (λ x y. (x ≡ first.now.left) × (y ≡ second.now.right))
+        proof.old told.old proof.new told.new) }
     ensures lines { OnOk result (AreLines proof.new writer.now.branch told.new) }
     ensures tells { IfOk result (λ number.
         Tells proof.new writer.now.branch number (Same first.now.left second.now.right)) }

@@ -10,13 +10,13 @@ ghost use Rattle.grind_congruence.specs.Edges.{Joins};
 ghost use Rattle.grind_proof_writer.specs.Lines.{Tells, IsUsable};
 ghost use Rattle.grind_proof_writer.specs.Writing.{CanWrite, Writes, MayWrite};
 ghost use Rattle.grind_needed_edges.specs.Needed.{AreJoinedWithin};
-ghost use Rattle.grind_needed_edges.specs.Plans.{IsNeeded, HasWaysFor};
 ghost use Rattle.grind_needed_edges.specs.Numbered.{HasNumber};
-ghost use Rattle.grind_explain.specs.Deriving.{AreLines, Goes, IsKnown, AreKnown, IsGiven, AreTold};
+ghost use Rattle.grind_needed_edges.specs.Plans.{IsNeeded, HasWaysFor, IsPlanned};
+ghost use Rattle.grind_explain.specs.Deriving.{AreLines, GoesAsPlanned, IsKnown, AreKnown, IsGiven, AreTold};
 
 use crate::chain::Way;
 use grind_congruence::Closure;
-use grind_needed_edges::{Pairs, Plan, Why, is_needed};
+use grind_needed_edges::{Pair, Pairs, Plan, Why, is_needed};
 use grind_outside::{List, Memory};
 use grind_proof_kernel::{Claim, Proof, Rule};
 use grind_proof_writer::Writer;
@@ -54,12 +54,11 @@ impl<'a> Course<'a> {
         requires planned { HasNumber self.now.plan.now.pairs a b }
         ensures writes { Writes self.now.writer.now proof.old proof.new }
         ensures ready { CanWrite self.now.writer.now proof.new }
-        ensures goes { OnOk result (Goes proof.old told.old proof.new told.new) }
+        ensures goes { OnOk result (GoesAsPlanned self.now proof.old told.old proof.new told.new) }
         ensures tells { IfOk result (λ number. Tells proof.new self.now.writer.now.branch number (Same a b)) }
     {
         self.tell_needed(proof, told)?;
-        let count = self.plan.needed.len();
-        let number = self.line_of_arg(proof, told, count, a, b)?;
+        let number = self.line_of_arg(proof, told, a, b)?;
         Ok(number)
     }
 
@@ -71,7 +70,7 @@ impl<'a> Course<'a> {
         requires count { length self.now.plan.now.needed ≤ length self.now.closure.now.edges }
         ensures writes { Writes self.now.writer.now proof.old proof.new }
         ensures ready { CanWrite self.now.writer.now proof.new }
-        ensures goes { OnOk result (Goes proof.old told.old proof.new told.new) }
+        ensures goes { OnOk result (GoesAsPlanned self.now proof.old told.old proof.new told.new) }
         ensures lines { OnOk result (AreLines proof.new self.now.writer.now.branch told.new) }
         ensures given { OnOk result (IsGiven self.now.closure.now self.now.whys.now self.now.plan.now self.now.writer.now.branch proof.new) }
         ensures known { OnOk result (AreKnown self.now.closure.now.edges self.now.plan.now.needed told.new (length self.now.plan.now.needed)) }
@@ -93,7 +92,7 @@ impl<'a> Course<'a> {
         requires count { length self.now.plan.now.needed ≤ length self.now.closure.now.edges }
         ensures writes { Writes self.now.writer.now proof.old proof.new }
         ensures ready { CanWrite self.now.writer.now proof.new }
-        ensures goes { OnOk result (Goes proof.old told.old proof.new told.new) }
+        ensures goes { OnOk result (GoesAsPlanned self.now proof.old told.old proof.new told.new) }
         ensures lines { OnOk result (AreLines proof.new self.now.writer.now.branch told.new) }
         ensures known { OnOk result (IsNeeded self.now.plan.now.needed place → IsKnown self.now.closure.now.edges told.new place) }
     {
@@ -108,40 +107,41 @@ impl<'a> Course<'a> {
                 Ok(())
             }
             Why::Congruence => {
-                self.tell_pair(proof, told, place, edge.left, edge.right)?;
+                self.tell_pair(proof, told, edge.left, edge.right)?;
                 Ok(())
             }
         }
     }
 
-    // Derives that two nodes are equal, whose arguments edges before a place join.
+    // Derives that two nodes are equal, whose arguments known edges join.
     fn tell_pair(
         &self,
         proof: &mut Proof,
         told: &mut Pairs,
-        place: usize,
         left: NodeId,
         right: NodeId,
     ) -> Result<(), Memory>
         requires ready { CanWrite self.now.writer.now proof.old }
         requires lines { AreLines proof.old self.now.writer.now.branch told.old }
         requires given { IsGiven self.now.closure.now self.now.whys.now self.now.plan.now self.now.writer.now.branch proof.old }
-        requires before { AreKnown self.now.closure.now.edges self.now.plan.now.needed told.old place }
         requires left { IsActive self.now.closure.now.lists left }
         requires right { IsActive self.now.closure.now.lists right }
-        requires joined { AreJoinedWithin proof.old.terms.nodes self.now.closure.now.edges place left right }
+        requires known { (place : ℕ) × AreKnown self.now.closure.now.edges self.now.plan.now.needed told.old place
+            × AreJoinedWithin proof.old.terms.nodes self.now.closure.now.edges place left right }
         requires planned { HasWaysFor proof.old.terms.nodes self.now.plan.now.pairs left right }
+        requires wanted { IsPlanned self.now.closure.now.edges self.now.whys.now self.now.plan.now left right }
         ensures writes { Writes self.now.writer.now proof.old proof.new }
         ensures ready { CanWrite self.now.writer.now proof.new }
-        ensures goes { OnOk result (Goes proof.old told.old proof.new told.new) }
+        ensures goes { OnOk result (GoesAsPlanned self.now proof.old told.old proof.new told.new) }
         ensures lines { OnOk result (AreLines proof.new self.now.writer.now.branch told.new) }
         ensures has { OnOk result (HasNumber told.new left right) }
     {
         let alloc = self.writer.alloc;
         let lefts = args_of(alloc, &proof.terms, left)?;
         let rights = args_of(alloc, &proof.terms, right)?;
-        let premises = self.lines_of_args(proof, told, place, lefts.as_slice(), rights.as_slice())?;
-        self.put_pair(proof, told, premises, left, right)?;
+        let premises = self.lines_of_args(proof, told, lefts.as_slice(), rights.as_slice())?;
+        let pair = Pair { left, right };
+        self.put_pair(proof, told, premises, &pair)?;
         Ok(())
     }
 
@@ -151,48 +151,47 @@ impl<'a> Course<'a> {
         proof: &mut Proof,
         told: &mut Pairs,
         premises: List<u32>,
-        left: NodeId,
-        right: NodeId,
+        pair: &Pair,
     ) -> Result<(), Memory>
         requires ready { CanWrite self.now.writer.now proof.old }
         requires lines { AreLines proof.old self.now.writer.now.branch told.old }
-        requires formed { IsFormed proof.old.terms.nodes (Same left right) }
+        requires formed { IsFormed proof.old.terms.nodes (Same pair.now.left pair.now.right) }
+        requires wanted { IsPlanned self.now.closure.now.edges self.now.whys.now self.now.plan.now pair.now.left pair.now.right }
         requires usable { All (IsUsable proof.old self.now.writer.now.branch) premises }
-        requires allowed { MayWrite self.now.writer.now proof.old Cong premises (Same left right) }
+        requires allowed { MayWrite self.now.writer.now proof.old Cong premises (Same pair.now.left pair.now.right) }
         ensures writes { Writes self.now.writer.now proof.old proof.new }
         ensures ready { CanWrite self.now.writer.now proof.new }
-        ensures goes { OnOk result (Goes proof.old told.old proof.new told.new) }
+        ensures goes { OnOk result (GoesAsPlanned self.now proof.old told.old proof.new told.new) }
         ensures lines { OnOk result (AreLines proof.new self.now.writer.now.branch told.new) }
-        ensures has { OnOk result (HasNumber told.new left right) }
+        ensures has { OnOk result (HasNumber told.new pair.now.left pair.now.right) }
     {
-        if let Some(_) = told.find(left, right) {
+        if let Some(_) = told.find(pair.left, pair.right) {
             return Ok(());
         }
-        let claim = Claim::Same(left, right);
+        let claim = Claim::Same(pair.left, pair.right);
         let number = self.writer.put(proof, Rule::Cong, premises, claim)?;
-        told.put(left, right, number)?;
+        told.put(pair.left, pair.right, number)?;
         Ok(())
     }
 
-    // Lines that tell that these nodes are equal to those, one by one, along planned ways before a place.
+    // Lines that tell that these nodes are equal to those, one by one, along planned ways of known edges.
     fn lines_of_args(
         &self,
         proof: &mut Proof,
         told: &mut Pairs,
-        place: usize,
         lefts: &[NodeId],
         rights: &[NodeId],
     ) -> Result<List<u32>, Memory>
         requires ready { CanWrite self.now.writer.now proof.old }
         requires lines { AreLines proof.old self.now.writer.now.branch told.old }
         requires given { IsGiven self.now.closure.now self.now.whys.now self.now.plan.now self.now.writer.now.branch proof.old }
-        requires before { AreKnown self.now.closure.now.edges self.now.plan.now.needed told.old place }
         requires active { All (IsActive self.now.closure.now.lists) lefts.now }
-        requires joined { AllZip (Joins self.now.closure.now.edges place) lefts.now rights.now }
+        requires known { (place : ℕ) × AreKnown self.now.closure.now.edges self.now.plan.now.needed told.old place
+            × AllZip (Joins self.now.closure.now.edges place) lefts.now rights.now }
         requires planned { AllZip (HasNumber self.now.plan.now.pairs) lefts.now rights.now }
         ensures writes { Writes self.now.writer.now proof.old proof.new }
         ensures ready { CanWrite self.now.writer.now proof.new }
-        ensures goes { OnOk result (Goes proof.old told.old proof.new told.new) }
+        ensures goes { OnOk result (GoesAsPlanned self.now proof.old told.old proof.new told.new) }
         ensures lines { OnOk result (AreLines proof.new self.now.writer.now.branch told.new) }
         ensures told { IfOk result (λ numbers. AreTold proof.new self.now.writer.now.branch lefts.now rights.now numbers) }
     {
@@ -203,7 +202,7 @@ impl<'a> Course<'a> {
             let Some((b, right_tail)) = right.split_first() else {
                 return Ok(numbers);
             };
-            let number = self.line_of_arg(proof, told, place, *a, *b)?;
+            let number = self.line_of_arg(proof, told, *a, *b)?;
             numbers.push(number)?;
             left = left_tail;
             right = right_tail;
@@ -211,25 +210,24 @@ impl<'a> Course<'a> {
         Ok(numbers)
     }
 
-    // A line that tells that two nodes are equal, along their way, whose edges stand before a place.
+    // A line that tells that two nodes are equal, along their way, whose edges are known.
     pub(crate) fn line_of_arg(
         &self,
         proof: &mut Proof,
         told: &mut Pairs,
-        _place: usize,
         a: NodeId,
         b: NodeId,
     ) -> Result<u32, Memory>
         requires ready { CanWrite self.now.writer.now proof.old }
         requires lines { AreLines proof.old self.now.writer.now.branch told.old }
         requires given { IsGiven self.now.closure.now self.now.whys.now self.now.plan.now self.now.writer.now.branch proof.old }
-        requires before { AreKnown self.now.closure.now.edges self.now.plan.now.needed told.old _place }
         requires active { IsActive self.now.closure.now.lists a }
-        requires joined { Joins self.now.closure.now.edges _place a b }
+        requires known { (place : ℕ) × AreKnown self.now.closure.now.edges self.now.plan.now.needed told.old place
+            × Joins self.now.closure.now.edges place a b }
         requires planned { HasNumber self.now.plan.now.pairs a b }
         ensures writes { Writes self.now.writer.now proof.old proof.new }
         ensures ready { CanWrite self.now.writer.now proof.new }
-        ensures goes { OnOk result (Goes proof.old told.old proof.new told.new) }
+        ensures goes { OnOk result (GoesAsPlanned self.now proof.old told.old proof.new told.new) }
         ensures lines { OnOk result (AreLines proof.new self.now.writer.now.branch told.new) }
         ensures tells { IfOk result (λ number. Tells proof.new self.now.writer.now.branch number (Same a b)) }
     {
@@ -242,7 +240,7 @@ impl<'a> Course<'a> {
             writer: self.writer,
             edges: self.closure.edges(),
         };
-        let line = way.chain(proof, told, places.as_slice(), a, b)?;
+        let line = way.chain(proof, told, places.as_slice(), a)?;
         Ok(line)
     }
 }

@@ -1,5 +1,5 @@
 -- Plans that grow.
-use Rattle.std.specs.Prelude.{◌≡◌, ℕ, zero, suc, ◌+◌, ◌<◌, ◌≤◌, Bool, true, false, List, [], ◌∷◌, ◌++◌, Option, Some, All, Contains, length, set, slice_get, slice_index_or, get_or, refl}
+use Rattle.std.specs.Prelude.{◌≡◌, ℕ, zero, suc, ◌+◌, ◌<◌, ◌≤◌, Bool, true, false, List, [], ◌∷◌, ◌++◌, Option, Some, All, Contains, length, set, slice_get, slice_index_or, get_or, ◌⊎◌, refl}
 use Rattle.std.specs.Option.{IsSomeAnd}
 use Rattle.std.specs.List.{AllZip}
 use Rattle.std.proofs.Common.{arith, sym, ap, ◌∙◌, subst, inl, inr}
@@ -16,10 +16,12 @@ use Rattle.grind_needed_edges.specs.declared.pairs.Pair.{Pair}
 use Rattle.grind_needed_edges.specs.declared.plan.Plan.{Plan}
 use Rattle.grind_needed_edges.specs.declared.why.Why.{Why}
 use Rattle.grind_needed_edges.specs.declared.why.Why.TheVariants as why
+use Rattle.grind_needed_edges.specs.Needed.{IsFirstWay, AreAligned, AreAlignedArgs, IsNeededPair, IsToldOfWay, IsNeededEquality}
+use Rattle.grind_needed_edges.specs.Needed.IsNeededPair.{argument}
 use Rattle.grind_needed_edges.specs.Numbered.{pair_of, HasNumber, KeepsNumbers}
-use Rattle.grind_needed_edges.specs.Needed.{IsFirstWay, IsGround, AreGrounds}
-use Rattle.grind_needed_edges.specs.Plans.{IsNeeded, AreWays, HasWaysFor, IsCovered}
-use Rattle.grind_needed_edges.specs.Planning.{set_all, Extends, AreHalfCovered, AreCoveredFrom}
+use Rattle.grind_needed_edges.specs.Plans.{IsNeeded, AreWays, IsOnPlan, IsPlan, IsPlanned, HasWaysFor, IsCovered}
+use Rattle.grind_needed_edges.specs.Planning.{set_all, IsWayKept, Extends, AreHalfCovered, AreCoveredFrom}
+use Rattle.grind_classes.proofs.ListLemmas.{Contains-more, Contains-nil, get_or-blank}
 use Rattle.grind_needed_edges.proofs.PairLemmas.{KeepsNumbers-put, last_entry, entry_cases}
 
 -- ---- which edges are needed
@@ -65,6 +67,21 @@ set_all-only needed (place ∷ places) bound p all high is =
     let other : p ≡ place → ⊥ = λ e. absurd (omega arith) in
     sym (get_or-set_other needed place p true false other)
     ∙ set_all-only (set needed place true) places bound p (All-tail (λ q. q < bound) place places all) high is
+
+-- what is needed then was needed or is one of these
+set_all-cases : (needed : List Bool) (places : List ℕ) (p : ℕ) → IsNeeded (set_all needed places) p → IsNeeded needed p ⊎ Contains places p
+set_all-cases needed [] p is = inl is
+set_all-cases needed (place ∷ places) p is = elim (set_all-cases (set needed place true) places p is) [
+  | inl before ↦ elim (cases_eq p place) [
+    | inl here ↦ inr (0, omega arith, sym here)
+    | inr other ↦ inl (sym (get_or-set_other needed place p true false other) ∙ before)
+  ]
+  | inr later ↦ inr (Contains-more place places p later)
+]
+
+-- one more that is not needed
+pub idle-push : (needed : List Bool) → ((place : ℕ) → ¬ IsNeeded needed place) → (place : ℕ) → ¬ IsNeeded (needed ++ false ∷ []) place
+idle-push needed idle place is = idle place (sym (get_or-blank needed 1 false place) ∙ is)
 
 -- only an edge that is listed is needed
 pub IsNeeded-within : (needed : List Bool) (p : ℕ) → IsNeeded needed p → p < length needed
@@ -124,6 +141,73 @@ module _ (edges : List Edge) (old new : Plan) (a b : ℕ) (places : List ℕ) (n
 
   pub HasNumber-keep : HasNumber new.pairs a b
   HasNumber-keep = (number, subst (λ (es : List (Pair × ℕ)). Contains es (pair_of a b, number)) (sym pairs_are) (last_entry old.pairs (pair_of a b, number)))
+
+-- a plan of no ways
+pub IsPlan-start : (nodes : List Node) (edges : List Edge) (whys : List Why) (a b : ℕ) (plan : Plan) → plan.pairs ≡ []
+    → ((place : ℕ) → ¬ IsNeeded plan.needed place) → IsPlan nodes edges whys a b plan
+IsPlan-start nodes edges whys a b plan none idle = record {
+  ways = λ x y n has. absurd (nothing x y n has);
+  pairs = λ x y n has. absurd (nothing x y n has);
+  on_ways = λ place is. absurd (idle place is);
+}
+  where
+    nothing : (x y n : ℕ) → Contains plan.pairs (pair_of x y, n) → ⊥
+    nothing x y n has = Contains-nil (pair_of x y, n) (subst (λ (es : List (Pair × ℕ)). Contains es (pair_of x y, n)) none has)
+
+-- and of one more
+pub IsPlan-keep : (nodes : List Node) (edges : List Edge) (whys : List Why) (a b : ℕ) (old new : Plan) (x y : ℕ) (places : List ℕ)
+    → IsPlan nodes edges whys a b old → IsNeededPair nodes edges whys a b x y → IsWayKept old x y places new → AreWays edges new
+    → IsPlan nodes edges whys a b new
+IsPlan-keep nodes edges whys a b old new x y places plan needed kept ways = record {
+  ways = ways;
+  pairs = λ c d n has. elim (entry_cases old.pairs (pair_of x y, length old.ways) (pair_of c d, n) (subst (λ (es : List (Pair × ℕ)). Contains es (pair_of c d, n)) kept.pairs has)) [
+    | inl before ↦ plan.pairs c d n before
+    | inr here ↦
+        let left : x ≡ c = ap (λ (e : Pair × ℕ). e.0.left) here in
+        let right : y ≡ d = ap (λ (e : Pair × ℕ). e.0.right) here in
+        subst (λ (m : ℕ). IsNeededPair nodes edges whys a b c m) right (subst (λ (m : ℕ). IsNeededPair nodes edges whys a b m y) left needed)
+  ];
+  on_ways = λ place is. elim (set_all-cases old.needed places place (subst (λ (bits : List Bool). IsNeeded bits place) kept.needed is)) [
+    | inl before ↦ stays place (plan.on_ways place before)
+    | inr here ↦ (
+      x,
+      y,
+      length old.ways,
+      places,
+      subst (λ (es : List (Pair × ℕ)). Contains es (pair_of x y, length old.ways)) (sym kept.pairs) (last_entry old.pairs (pair_of x y, length old.ways)),
+      ap (λ (ws : List (List ℕ)). slice_get ws (length old.ways)) kept.ways ∙ slice_get-last old.ways places,
+      here,
+    )
+  ];
+}
+  where
+    stays : (place : ℕ) → IsOnPlan old place → IsOnPlan new place
+    stays place (c, d, n, ps, has, stands, on) = (
+      c,
+      d,
+      n,
+      ps,
+      KeepsNumbers-put old.pairs new.pairs (pair_of x y, length old.ways) kept.pairs (pair_of c d) n has,
+      ap (λ (ws : List (List ℕ)). slice_get ws n) kept.ways ∙ slice_get-more old.ways (places ∷ []) n ps stands,
+      on,
+    )
+
+-- the arguments of a congruence on a way that is planned are needed
+pub needed_args : (nodes : List Node) (edges : List Edge) (whys : List Why) (a b : ℕ) (plan : Plan) (place : ℕ) (edge : Edge) (x y : ℕ)
+    → IsPlan nodes edges whys a b plan → IsOnPlan plan place → slice_get edges place ≡ Some edge → slice_get whys edge.why ≡ Some why.Congruence
+    → AreAlignedArgs nodes edge.left edge.right x y → IsNeededPair nodes edges whys a b x y
+needed_args nodes edges whys a b plan place edge x y given (c, d, n, places, has, stands, on) edge_is reason args =
+    let it = given.ways c d n has in
+    let same : places ≡ it.0 = same_Some places it.0 (sym stands ∙ it.1) in
+    argument (given.pairs c d n has) it.2
+    (record { place = place; on = subst (λ (ps : List ℕ). Contains ps place) same on; edge_is = edge_is; reason = reason }) args
+
+-- so are those of each pair of the two rows
+pub zip_paired : (Q P : ℕ → ℕ → Type 0) (xs ys : List ℕ) → AllZip Q xs ys → ((x y : ℕ) → AreAligned xs ys x y → P x y) → AllZip P xs ys
+zip_paired Q P [] [] zip all = tt
+zip_paired Q P [] (y ∷ ys) zip all = absurd zip
+zip_paired Q P (x ∷ xs) [] zip all = absurd zip
+zip_paired Q P (x ∷ xs) (y ∷ ys) zip all = (all x y (inl (refl, refl)), zip_paired Q P xs ys zip.1 (λ c d paired. all c d (inr paired)))
 
 -- pairs that have ways still have them
 pub ways_stay : (old new : List (Pair × ℕ)) (lefts rights : List ℕ) → KeepsNumbers old new → AllZip (HasNumber old) lefts rights
@@ -225,6 +309,11 @@ reason_read P whys number other reason is h =
     subst P is
     (some_at P (slice_get whys number) (get_or whys number other) (slice_get-get_or whys number other (within_of_some P whys number h)) h)
 
+-- a reason that is read stands there
+pub reason_stands : (whys : List Why) (number : ℕ) (reason : Why) → number < length whys → get_or whys number (why.Line 0) ≡ reason →
+    slice_get whys number ≡ Some reason
+reason_stands whys number reason below is = slice_get-get_or whys number (why.Line 0) below ∙ ap Some is
+
 -- the edge that is read at a place
 pub edge_read : (edges read_edges : List Edge) (place : ℕ) (read : Edge) → read_edges ≡ edges → place < length edges →
     read ≡ get_or read_edges place read → slice_get edges place ≡ Some read
@@ -248,3 +337,17 @@ pub congruence_covered : (nodes : List Node) (edges : List Edge) (whys : List Wh
     slice_get edges place ≡ Some read → HasWaysFor nodes plan.pairs read.left read.right → IsCovered nodes edges whys plan place
 congruence_covered nodes edges whys plan place read read_is ways is edge stands reason =
     subst (λ (e : Edge). HasWaysFor nodes plan.pairs e.left e.right) (same_Some read edge (sym read_is ∙ stands)) ways
+
+-- an equality of a way that is planned is one that is needed
+pub IsPlanned-needed : (nodes : List Node) (edges : List Edge) (whys read : List Why) (a b : ℕ) (plan : Plan) (x y : ℕ) → read ≡ whys
+    → IsPlan nodes edges whys a b plan → IsPlanned edges read plan x y → IsNeededEquality nodes edges whys a b x y
+IsPlanned-needed nodes edges whys read a b plan x y same given (c, d, n, places, has, stands, told) =
+    let it = given.ways c d n has in
+    let way : places ≡ it.0 = same_Some places it.0 (sym stands ∙ it.1) in record {
+      left = c;
+      right = d;
+      places = it.0;
+      needed = given.pairs c d n has;
+      way = it.2;
+      told = subst (λ (ps : List ℕ). IsToldOfWay edges whys c ps x y) way (subst (λ (ws : List Why). IsToldOfWay edges ws c places x y) same told);
+    }

@@ -1,17 +1,23 @@
 -- What the making of a plan keeps. No public clause cites these words.
-use Rattle.std.specs.Prelude.{◌≡◌, ℕ, ◌<◌, ◌≤◌, Bool, true, List, [], ◌∷◌, All, length, set}
+use Rattle.std.specs.Prelude.{◌≡◌, ℕ, ◌<◌, ◌≤◌, Bool, true, List, [], ◌∷◌, ◌++◌, All, length, set}
 use Rattle.std.specs.List.{AllZip}
 use Rattle.grind_term_graph.specs.declared.node.Node.{Node}
 use Rattle.grind_congruence.specs.declared.edge.Edge.{Edge}
 use Rattle.grind_needed_edges.specs.declared.why.Why.{Why}
 use Rattle.grind_needed_edges.specs.declared.plan.Plan.{Plan}
-use Rattle.grind_needed_edges.specs.Numbered.{HasNumber, KeepsNumbers}
+use Rattle.grind_needed_edges.specs.Numbered.{pair_of, HasNumber, KeepsNumbers}
 use Rattle.grind_needed_edges.specs.Plans.{IsNeeded, AreWays, IsCovered}
 
 -- these places are needed too
 abbrev pub set_all : List Bool → List ℕ → List Bool
 set_all needed [] = needed
 set_all needed (place ∷ places) = set_all (set needed place true) places
+
+-- the way of a and b is in the plan, with the next number
+pub record IsWayKept (old : Plan) (a b : ℕ) (places : List ℕ) (new : Plan) : Type 0 where
+  pub needed : new.needed ≡ set_all old.needed places
+  pub ways : new.ways ≡ old.ways ++ places ∷ []
+  pub pairs : new.pairs ≡ old.pairs ++ (pair_of a b, length old.ways) ∷ []
 
 -- more is planned: each pair keeps its way, and no edge at the bound or above is needed that was not
 pub record Extends (old new : Plan) (bound : ℕ) : Type 0 where

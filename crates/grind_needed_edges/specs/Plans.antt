@@ -7,8 +7,9 @@ use Rattle.grind_needed_edges.specs.declared.why.Why.{Why}
 use Rattle.grind_needed_edges.specs.declared.why.Why.TheVariants as why
 use Rattle.grind_needed_edges.specs.declared.pairs.Pair.{Pair}
 use Rattle.grind_needed_edges.specs.declared.plan.Plan.{Plan}
+use Rattle.grind_needed_edges.specs.declared.plan.Planner.{Planner}
 use Rattle.grind_needed_edges.specs.Numbered.{pair_of, HasNumber}
-use Rattle.grind_needed_edges.specs.Needed.{IsFirstWay}
+use Rattle.grind_needed_edges.specs.Needed.{IsFirstWay, IsNeededPair, IsToldOfWay}
 
 -- the edge at that place is needed
 abbrev pub IsNeeded : List Bool → ℕ → Type 0
@@ -19,6 +20,34 @@ abbrev pub AreWays : List Edge → Plan → Type 0
 AreWays edges plan =
     (a b number : ℕ) → Contains plan.pairs (pair_of a b, number)
     → (places : List ℕ) × (slice_get plan.ways number ≡ Some places) × IsFirstWay edges a b places × All (IsNeeded plan.needed) places
+
+-- the edge at that place is on the way of a pair
+abbrev pub IsOnPlan : Plan → ℕ → Type 0
+IsOnPlan plan place =
+    (a : ℕ) × (b : ℕ) × (number : ℕ) × (places : List ℕ) × Contains plan.pairs (pair_of a b, number) × (slice_get plan.ways number ≡ Some places)
+    × Contains places place
+
+-- a plan has the ways of pairs that the equality of a and b needs, and no edge is needed that is on none of them
+pub record IsPlan (nodes : List Node) (edges : List Edge) (whys : List Why) (a b : ℕ) (plan : Plan) : Type 0 where
+  pub ways : AreWays edges plan
+  pub pairs : (x y number : ℕ) → Contains plan.pairs (pair_of x y, number) → IsNeededPair nodes edges whys a b x y
+  pub on_ways : (place : ℕ) → IsNeeded plan.needed place → IsOnPlan plan place
+
+-- the equality of x and y is one of the way of a pair that is planned
+abbrev pub IsPlanned : List Edge → List Why → Plan → ℕ → ℕ → Type 0
+IsPlanned edges whys plan x y =
+    (a : ℕ) × (b : ℕ) × (number : ℕ) × (places : List ℕ) × Contains plan.pairs (pair_of a b, number) × (slice_get plan.ways number ≡ Some places)
+    × IsToldOfWay edges whys a places x y
+
+-- the equality of the planner's two nodes needs that of x and y
+abbrev pub IsNeededBy : Planner → ℕ → ℕ → Type 0
+IsNeededBy planner x y =
+    IsNeededPair planner.terms.now.nodes planner.closure.now.edges planner.whys.now planner.left planner.right x y
+
+-- the plan is one for the planner's two nodes
+abbrev pub IsPlanOf : Planner → Plan → Type 0
+IsPlanOf planner plan =
+    IsPlan planner.terms.now.nodes planner.closure.now.edges planner.whys.now planner.left planner.right plan
 
 -- each pair of arguments of the two nodes has a way
 abbrev pub HasWaysFor : List Node → List (Pair × ℕ) → ℕ → ℕ → Type 0

@@ -4,10 +4,10 @@ ghost use Rattle.std.specs.List.{AllZip};
 ghost use Rattle.grind_classes.specs.Classes.{IsActive, AreTogether};
 ghost use Rattle.grind_congruence.specs.Congruence.{Fits};
 ghost use Rattle.grind_congruence.specs.Edges.{Joins};
-ghost use Rattle.grind_needed_edges.specs.Needed.{IsFewest, AreJoinedWithin, IsFirstWay, AreGrounds};
-ghost use Rattle.grind_needed_edges.specs.Plans.{IsNeeded, AreWays, HasWaysFor, IsCovered};
+ghost use Rattle.grind_needed_edges.specs.Needed.{IsFewest, AreJoinedWithin, IsFirstWay, AreAlignedArgs, AreGrounds};
 ghost use Rattle.grind_needed_edges.specs.Numbered.{HasNumber, HasNoNumber};
-ghost use Rattle.grind_needed_edges.specs.Planning.{set_all, Extends, IsBound};
+ghost use Rattle.grind_needed_edges.specs.Plans.{IsNeeded, AreWays, IsPlanOf, IsNeededBy, HasWaysFor, IsCovered};
+ghost use Rattle.grind_needed_edges.specs.Planning.{set_all, IsWayKept, Extends, IsBound};
 
 use crate::pairs::Pairs;
 use crate::why::Why;
@@ -38,29 +38,33 @@ pub struct Planner<'a> {
     pub whys: &'a [Why],
     /// The terms.
     pub terms: &'a TermTable,
+    /// One of the two nodes whose equality is explained.
+    pub left: NodeId,
+    /// The other.
+    pub right: NodeId,
 }
 
 impl<'a> Planner<'a> {
-    /// What the equality of two nodes of one class needs: the edges on the first way between them and, where such an edge is a
-    /// congruence, what the equality of each pair of its arguments needs.
+    /// What the equality of the two nodes needs, which are in one class: the edges on the first way between them and, where
+    /// such an edge is a congruence, what the equality of each pair of its arguments needs.
     ///
     /// # Errors
     ///
     /// `Memory`.
-    pub fn plan_of(&self, a: NodeId, b: NodeId) -> Result<Plan, Memory>
-        requires together { AreTogether self.now.closure.now.lists a b }
+    pub fn plan_of(&self) -> Result<Plan, Memory>
+        requires together { AreTogether self.now.closure.now.lists self.now.left self.now.right }
         requires fits { Fits self.now.closure.now self.now.terms.now.nodes }
-        requires grounds { (count : ℕ) → IsFewest self.now.closure.now.edges count a b
+        requires grounds { (count : ℕ) → IsFewest self.now.closure.now.edges count self.now.left self.now.right
             → AreGrounds self.now.terms.now.nodes self.now.closure.now.edges self.now.whys.now count }
-        ensures fewest { IfOk result (λ plan. IsFewest self.now.closure.now.edges (length plan.needed) a b) }
+        ensures fewest { IfOk result (λ plan. IsFewest self.now.closure.now.edges (length plan.needed) self.now.left self.now.right) }
         ensures count { IfOk result (λ plan. length plan.needed ≤ length self.now.closure.now.edges) }
-        ensures ways { IfOk result (λ plan. AreWays self.now.closure.now.edges plan) }
-        ensures has { IfOk result (λ plan. HasNumber plan.pairs a b) }
+        ensures plan { IfOk result (λ plan. IsPlanOf self.now plan) }
+        ensures has { IfOk result (λ plan. HasNumber plan.pairs self.now.left self.now.right) }
         ensures covers { IfOk result (λ plan. (place : ℕ)
             → IsCovered self.now.terms.now.nodes self.now.closure.now.edges self.now.whys.now plan place) }
     {
         let edges = self.closure.edges();
-        let places = self.closure.path(self.alloc, a, b)?;
+        let places = self.closure.path(self.alloc, self.left, self.right)?;
         let count = bound_of(places.as_slice());
         let needed = none_needed(self.alloc, count)?;
         let mut plan = Plan {
@@ -68,7 +72,7 @@ impl<'a> Planner<'a> {
             pairs: Pairs::new(self.alloc),
             ways: List::new(self.alloc),
         };
-        keep(&mut plan, edges, a, b, places)?;
+        keep(&mut plan, edges, self.left, self.right, places)?;
         self.cover_all(&mut plan, count)?;
         Ok(plan)
     }
@@ -79,9 +83,9 @@ impl<'a> Planner<'a> {
         requires grounds { AreGrounds self.now.terms.now.nodes self.now.closure.now.edges self.now.whys.now count }
         requires count { length plan.old.needed ≡ count }
         requires within { count ≤ length self.now.closure.now.edges }
-        requires ways { AreWays self.now.closure.now.edges plan.old }
+        requires ways { IsPlanOf self.now plan.old }
         ensures long { OnOk result (length plan.new.needed ≡ length plan.old.needed) }
-        ensures ways { OnOk result (AreWays self.now.closure.now.edges plan.new) }
+        ensures ways { OnOk result (IsPlanOf self.now plan.new) }
         ensures pairs { OnOk result ((x y : ℕ) → HasNumber plan.old.pairs x y → HasNumber plan.new.pairs x y) }
         ensures covers { OnOk result ((place : ℕ)
             → IsCovered self.now.terms.now.nodes self.now.closure.now.edges self.now.whys.now plan.new place) }
@@ -100,9 +104,9 @@ impl<'a> Planner<'a> {
         requires grounds { AreGrounds self.now.terms.now.nodes self.now.closure.now.edges self.now.whys.now (length plan.old.needed) }
         requires place { place < length plan.old.needed }
         requires within { length plan.old.needed ≤ length self.now.closure.now.edges }
-        requires ways { AreWays self.now.closure.now.edges plan.old }
+        requires ways { IsPlanOf self.now plan.old }
         ensures extends { OnOk result (Extends plan.old plan.new place) }
-        ensures ways { OnOk result (AreWays self.now.closure.now.edges plan.new) }
+        ensures ways { OnOk result (IsPlanOf self.now plan.new) }
         ensures covers { OnOk result
             (IsCovered self.now.terms.now.nodes self.now.closure.now.edges self.now.whys.now plan.new place) }
     {
@@ -132,10 +136,11 @@ impl<'a> Planner<'a> {
         requires left { IsActive self.now.closure.now.lists left }
         requires right { IsActive self.now.closure.now.lists right }
         requires joined { AreJoinedWithin self.now.terms.now.nodes self.now.closure.now.edges place left right }
+        requires needed { (x y : ℕ) → AreAlignedArgs self.now.terms.now.nodes left right x y → IsNeededBy self.now x y }
         requires place { place ≤ length plan.old.needed }
-        requires ways { AreWays self.now.closure.now.edges plan.old }
+        requires ways { IsPlanOf self.now plan.old }
         ensures extends { OnOk result (Extends plan.old plan.new place) }
-        ensures ways { OnOk result (AreWays self.now.closure.now.edges plan.new) }
+        ensures ways { OnOk result (IsPlanOf self.now plan.new) }
         ensures covers { OnOk result (HasWaysFor self.now.terms.now.nodes plan.new.pairs left right) }
     {
         let lefts = self.terms.node(left).args.as_slice();
@@ -155,10 +160,11 @@ impl<'a> Planner<'a> {
         requires left { All (IsActive self.now.closure.now.lists) lefts.now }
         requires right { All (IsActive self.now.closure.now.lists) rights.now }
         requires joined { AllZip (Joins self.now.closure.now.edges place) lefts.now rights.now }
+        requires needed { AllZip (IsNeededBy self.now) lefts.now rights.now }
         requires place { place ≤ length plan.old.needed }
-        requires ways { AreWays self.now.closure.now.edges plan.old }
+        requires ways { IsPlanOf self.now plan.old }
         ensures extends { OnOk result (Extends plan.old plan.new place) }
-        ensures ways { OnOk result (AreWays self.now.closure.now.edges plan.new) }
+        ensures ways { OnOk result (IsPlanOf self.now plan.new) }
         ensures covers { OnOk result (AllZip (HasNumber plan.new.pairs) lefts.now rights.now) }
     {
         let mut left = lefts;
@@ -179,10 +185,11 @@ impl<'a> Planner<'a> {
         requires left { IsActive self.now.closure.now.lists a }
         requires right { IsActive self.now.closure.now.lists b }
         requires joined { Joins self.now.closure.now.edges _place a b }
+        requires needed { IsNeededBy self.now a b }
         requires place { _place ≤ length plan.old.needed }
-        requires ways { AreWays self.now.closure.now.edges plan.old }
+        requires ways { IsPlanOf self.now plan.old }
         ensures extends { OnOk result (Extends plan.old plan.new _place) }
-        ensures ways { OnOk result (AreWays self.now.closure.now.edges plan.new) }
+        ensures ways { OnOk result (IsPlanOf self.now plan.new) }
         ensures has { OnOk result (HasNumber plan.new.pairs a b) }
     {
         if let Some(_) = plan.pairs.find(a, b) {
@@ -210,6 +217,7 @@ fn keep(
     ensures extends { OnOk result ((bound : ℕ) → All (λ place. place < bound) places → Extends plan.old plan.new bound) }
     ensures ways { OnOk result (AreWays _edges.now plan.new) }
     ensures has { OnOk result (HasNumber plan.new.pairs a b) }
+    ensures kept { OnOk result (IsWayKept plan.old a b places plan.new) }
 {
     let number = plan.ways.len() as u32;
     set_needed(&mut plan.needed, places.as_slice());
@@ -242,7 +250,8 @@ pub fn is_needed(needed: &[bool], place: usize) -> bool
 
 // So many edges, none of which is needed.
 fn none_needed(alloc: Global, count: usize) -> Result<List<bool>, Memory>
-    ensures { IfOk result (λ needed. length needed ≡ count) }
+    ensures long { IfOk result (λ needed. length needed ≡ count) }
+    ensures idle { IfOk result (λ needed. (place : ℕ) → ¬ IsNeeded needed place) }
 {
     let mut needed = List::new(alloc);
     for _ in 0..count {

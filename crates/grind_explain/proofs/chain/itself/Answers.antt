@@ -1,3 +1,4 @@
+use Rattle.std.specs.Prelude.{refl}
 use Rattle.grind_claims.specs.declared.claim.Claim.TheVariants.{Same}
 use Rattle.grind_proof_writer.proofs.LineLemmas.{Tells-last}
 use Rattle.grind_explain.proofs.NotedLemmas.{Goes-none, Goes-line, AreLines-line}
@@ -11,7 +12,7 @@ returns-clause-goes c =
     let writer = c.args.writer.now in
     Goes-line writer.lemmas.now writer.goal.now c.args.proof.now c.reflexive.new.proof writer.branch c.args.told.now c.put.new.self c.args.a c.args.a
     c.in_ok-number.number c.reflexive.ensures.writes c.in_ok-number.ensures.next c.in_ok-number.ensures.ends c.in_default.ensures
-    c.in_ok-put.ensures.ok
+    c.in_ok-put.ensures.ok (refl, refl)
 
 pub returns-clause-lines : goal.returns-clause-lines
 returns-clause-lines c =

@@ -1,3 +1,4 @@
+use Rattle.std.specs.Prelude.{refl}
 use Rattle.grind_claims.specs.declared.claim.Claim.TheVariants.{Same}
 use Rattle.grind_proof_writer.proofs.LineLemmas.{Tells-last}
 use Rattle.grind_explain.proofs.ChainLemmas.{other_way}
@@ -15,7 +16,7 @@ returns-clause-goes c =
     let writer = c.args.writer.now in
     Goes-line writer.lemmas.now writer.goal.now c.args.proof.now c.symmetric.new.proof writer.branch c.args.told.now c.put.new.self c.args.here c.args.next
     c.in_ok-number.number c.symmetric.ensures.writes c.in_ok-number.ensures.next c.in_ok-number.ensures.ends c.in_default.ensures
-    c.in_ok-put.ensures.ok
+    c.in_ok-put.ensures.ok (refl, refl)
 
 pub returns-clause-lines : goal.returns-clause-lines
 returns-clause-lines c =

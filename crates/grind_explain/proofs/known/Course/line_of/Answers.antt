@@ -1,3 +1,4 @@
+use Rattle.std.specs.Prelude.{length}
 use Rattle.grind_proof_writer.proofs.LineLemmas.{Appends-through}
 use Rattle.grind_explain.proofs.NotedLemmas.{Goes-through}
 use Rattle.grind_explain.proofs.known.Course.line_of.Goals as goal
@@ -18,3 +19,6 @@ pub returns-clause-goes : goal.returns-clause-goes
 returns-clause-goes c =
     Goes-through c.args.proof.now c.tell_needed.new.proof c.line_of_arg.new.proof c.args.told.now c.tell_needed.new.told c.line_of_arg.new.told
     c.in_ok-tell_needed.ensures.goes c.in_ok-number.ensures.goes
+
+pub line_of_arg-requires-clause-known : goal.line_of_arg-requires-clause-known
+line_of_arg-requires-clause-known c = (length c.args.self.now.plan.now.needed, c.in_ok-tell_needed.ensures.known, c.requires.joined)

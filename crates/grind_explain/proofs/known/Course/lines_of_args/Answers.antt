@@ -8,18 +8,21 @@ pub loop-a-init : goal.loop-a-init
 loop-a-init c =
     let writer = c.args.self.now.writer.now in
     AreHalfTold-start writer.lemmas.now writer.goal.now c.args.proof.now c.args.told.now writer.branch c.args.self.now.closure.now c.args.self.now.whys.now
-    c.args.self.now.plan.now c.args.place c.args.lefts.now c.args.rights.now c.new-numbers.result c.new-numbers.ensures c.requires.ready
-    c.requires.lines c.requires.given c.requires.before c.requires.active c.requires.joined c.requires.planned
+    c.args.self.now.plan.now c.requires.known.0 c.args.lefts.now c.args.rights.now c.new-numbers.result c.new-numbers.ensures c.requires.ready
+    c.requires.lines c.requires.given c.requires.known.1 c.requires.active c.requires.known.2 c.requires.planned
 
 pub line_of_arg-requires-clause-active : goal.line_of_arg-requires-clause-active
 line_of_arg-requires-clause-active c =
     All-first (IsActive c.args.self.now.closure.now.lists) c.loop-a.left.now c.in-Some.left_tail.now c.in-Some.a.now c.in-Some.ensures.cases.0
     c.loop-a.invariant.active
 
-pub line_of_arg-requires-clause-joined : goal.line_of_arg-requires-clause-joined
-line_of_arg-requires-clause-joined c =
-    zip_first _ c.loop-a.left.now c.in-Some.left_tail.now c.loop-a.right.now c.in-Some-split_first.right_tail.now c.in-Some.a.now
-    c.in-Some-split_first.b.now c.in-Some.ensures.cases.0 c.in-Some-split_first.ensures.cases.0 c.loop-a.invariant.joined
+pub line_of_arg-requires-clause-known : goal.line_of_arg-requires-clause-known
+line_of_arg-requires-clause-known c = (
+  c.loop-a.invariant.place,
+  c.loop-a.invariant.edges_known,
+  zip_first _ c.loop-a.left.now c.in-Some.left_tail.now c.loop-a.right.now c.in-Some-split_first.right_tail.now c.in-Some.a.now
+      c.in-Some-split_first.b.now c.in-Some.ensures.cases.0 c.in-Some-split_first.ensures.cases.0 c.loop-a.invariant.joined,
+)
 
 pub line_of_arg-requires-clause-planned : goal.line_of_arg-requires-clause-planned
 line_of_arg-requires-clause-planned c =
@@ -42,7 +45,7 @@ pub loop-a-preserved : goal.loop-a-preserved
 loop-a-preserved c =
     let writer = c.args.self.now.writer.now in
     AreHalfTold-step writer.lemmas.now writer.goal.now c.args.proof.now c.loop-a.proof c.line_of_arg.new.proof c.args.told.now c.loop-a.told
-    c.line_of_arg.new.told writer.branch c.args.self.now.closure.now c.args.self.now.whys.now c.args.self.now.plan.now c.args.place
+    c.line_of_arg.new.told writer.branch c.args.self.now.closure.now c.args.self.now.whys.now c.args.self.now.plan.now
     c.args.lefts.now c.args.rights.now c.loop-a.left.now c.in-Some.left_tail.now c.loop-a.right.now
     c.in-Some-split_first.right_tail.now c.loop-a.numbers c.push.new.self c.in-Some.a.now c.in-Some-split_first.b.now
     c.in_ok-number.number c.in-Some.ensures.cases.0 c.in-Some-split_first.ensures.cases.0 c.in_ok-push.ensures.ok c.loop-a.invariant
@@ -52,5 +55,5 @@ pub returns-clause-told : goal.returns-clause-told
 returns-clause-told c =
     let writer = c.args.self.now.writer.now in
     AreHalfTold-end writer.lemmas.now writer.goal.now c.args.proof.now c.loop-a.proof c.args.told.now c.loop-a.told writer.branch
-    c.args.self.now.closure.now c.args.self.now.whys.now c.args.self.now.plan.now c.args.place c.args.lefts.now c.args.rights.now
+    c.args.self.now.closure.now c.args.self.now.whys.now c.args.self.now.plan.now c.args.lefts.now c.args.rights.now
     c.loop-a.left.now c.loop-a.right.now c.loop-a.numbers c.in_default.ensures.cases c.loop-a.invariant

@@ -11,22 +11,24 @@ use Rattle.grind_explain.proofs.known.Course.tell_pair.Goals as goal
 
 pub lines_of_args-requires-clause-active : goal.lines_of_args-requires-clause-active
 lines_of_args-requires-clause-active c =
-    let joined = c.requires.joined in
+    let joined = c.requires.known.2 in
     subst (λ (args : List ℕ). All (IsActive c.args.self.now.closure.now.lists) args)
     (sym (c.as_slice.ensures.value ∙ c.in_ok-lefts.ensures joined.left joined.left_is))
     (c.requires.given.fits.args c.args.left joined.left c.requires.left joined.left_is)
 
-pub lines_of_args-requires-clause-joined : goal.lines_of_args-requires-clause-joined
-lines_of_args-requires-clause-joined c =
-    let joined = c.requires.joined in
-    let R : ℕ → ℕ → Type 0 = Joins c.args.self.now.closure.now.edges c.args.place in
+pub lines_of_args-requires-clause-known : goal.lines_of_args-requires-clause-known
+lines_of_args-requires-clause-known c =
+    let joined = c.requires.known.2 in
+    let R : ℕ → ℕ → Type 0 = Joins c.args.self.now.closure.now.edges c.requires.known.0 in
+    let zip : AllZip R c.as_slice.result.now c.as_slice-2.result.now =
     subst (λ (xs : List ℕ). AllZip R xs c.as_slice-2.result.now) (sym (c.as_slice.ensures.value ∙ c.in_ok-lefts.ensures joined.left joined.left_is))
     (subst (λ (ys : List ℕ). AllZip R joined.left.args ys) (sym (c.as_slice-2.ensures.value ∙ c.in_ok-rights.ensures joined.right joined.right_is))
-    joined.args)
+    joined.args) in
+    (c.requires.known.0, c.requires.known.1, zip)
 
 pub lines_of_args-requires-clause-planned : goal.lines_of_args-requires-clause-planned
 lines_of_args-requires-clause-planned c =
-    let joined = c.requires.joined in
+    let joined = c.requires.known.2 in
     let R : ℕ → ℕ → Type 0 = HasNumber c.args.self.now.plan.now.pairs in
     subst (λ (xs : List ℕ). AllZip R xs c.as_slice-2.result.now) (sym (c.as_slice.ensures.value ∙ c.in_ok-lefts.ensures joined.left joined.left_is))
     (subst (λ (ys : List ℕ). AllZip R joined.left.args ys) (sym (c.as_slice-2.ensures.value ∙ c.in_ok-rights.ensures joined.right joined.right_is))
@@ -39,7 +41,7 @@ put_pair-requires-clause-usable c =
 
 pub put_pair-requires-clause-allowed : goal.put_pair-requires-clause-allowed
 put_pair-requires-clause-allowed c =
-    let joined = c.requires.joined in
+    let joined = c.requires.known.2 in
     IsCong-told c.args.proof.now c.lines_of_args.new.proof c.args.self.now.writer.now.branch c.args.self.now.closure.now.edges _ c.args.left
     c.args.right c.as_slice.result.now c.as_slice-2.result.now c.in_ok-premises.premises c.in_ok-premises.ensures.writes.terms joined
     (c.as_slice.ensures.value ∙ c.in_ok-lefts.ensures joined.left joined.left_is)

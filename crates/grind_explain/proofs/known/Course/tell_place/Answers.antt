@@ -5,8 +5,8 @@ use Rattle.grind_explain.specs.Explained.{IsReason}
 use Rattle.grind_needed_edges.proofs.JoinLemmas.{ends_active}
 use Rattle.grind_needed_edges.proofs.PairLemmas.{HasNumber-noted}
 use Rattle.grind_explain.proofs.NotedLemmas.{Goes-noted, AreLines-noted}
-use Rattle.grind_needed_edges.proofs.PlanLemmas.{edge_read, within_of_some, reason_read}
-use Rattle.grind_explain.proofs.KnownLemmas.{reason_stands, IsKnown-read}
+use Rattle.grind_needed_edges.proofs.PlanLemmas.{edge_read, within_of_some, reason_read, reason_stands}
+use Rattle.grind_explain.proofs.KnownLemmas.{IsKnown-read, IsPlanned-on}
 use Rattle.grind_explain.proofs.known.Course.tell_place.Goals as goal
 
 pub bounds : goal.bounds
@@ -37,14 +37,15 @@ tell_pair-requires-clause-right c =
     c.edges-edges.ensures.value (omega (arith, c.requires.place, c.requires.count)) c.index-edges-place.is in
     (ends_active c.args.self.now.closure.now c.args.place c.index-edges-place.result c.edges-edges.ensures.tied read).1
 
-pub tell_pair-requires-clause-joined : goal.tell_pair-requires-clause-joined
-tell_pair-requires-clause-joined c =
+pub tell_pair-requires-clause-known : goal.tell_pair-requires-clause-known
+tell_pair-requires-clause-known c =
     let edges = c.args.self.now.closure.now.edges in
     let read = edge_read edges c.edges-edges.result.now c.args.place c.index-edges-place.result c.edges-edges.ensures.value
     (omega (arith, c.requires.place, c.requires.count)) c.index-edges-place.is in
-    reason_read (IsReason c.args.proof.now c.args.self.now.writer.now.branch edges c.args.place c.index-edges-place.result)
+    let joined = reason_read (IsReason c.args.proof.now c.args.self.now.writer.now.branch edges c.args.place c.index-edges-place.result)
     c.args.self.now.whys.now c.index-edges-place.result.why (why.Line 0) why.Congruence c.in-Congruence.is
-    (c.requires.given.reasons c.args.place c.index-edges-place.result c.requires.place read)
+    (c.requires.given.reasons c.args.place c.index-edges-place.result c.requires.place read) in
+    (c.args.place, c.requires.before, joined)
 
 pub tell_pair-requires-clause-planned : goal.tell_pair-requires-clause-planned
 tell_pair-requires-clause-planned c =
@@ -57,6 +58,20 @@ tell_pair-requires-clause-planned c =
     ap (λ (bits : List Bool). slice_index_or bits c.args.place false) (sym c.as_slice.ensures.value) ∙ sym c.is_needed.ensures
     ∙ c.if-not-is_needed.false in
     c.requires.given.covers c.args.place on c.index-edges-place.result read
+    (reason_stands c.args.self.now.whys.now c.index-edges-place.result.why why.Congruence below c.in-Congruence.is)
+
+pub tell_pair-requires-clause-wanted : goal.tell_pair-requires-clause-wanted
+tell_pair-requires-clause-wanted c =
+    let edges = c.args.self.now.closure.now.edges in
+    let read = edge_read edges c.edges-edges.result.now c.args.place c.index-edges-place.result c.edges-edges.ensures.value
+    (omega (arith, c.requires.place, c.requires.count)) c.index-edges-place.is in
+    let below = within_of_some (IsReason c.args.proof.now c.args.self.now.writer.now.branch edges c.args.place c.index-edges-place.result)
+    c.args.self.now.whys.now c.index-edges-place.result.why (c.requires.given.reasons c.args.place c.index-edges-place.result c.requires.place read) in
+    let on : slice_index_or c.args.self.now.plan.now.needed c.args.place false ≡ true =
+    ap (λ (bits : List Bool). slice_index_or bits c.args.place false) (sym c.as_slice.ensures.value) ∙ sym c.is_needed.ensures
+    ∙ c.if-not-is_needed.false in
+    IsPlanned-on edges c.args.self.now.whys.now c.args.self.now.plan.now c.args.place c.index-edges-place.result
+    (c.requires.given.on_ways c.args.place on) read
     (reason_stands c.args.self.now.whys.now c.index-edges-place.result.why why.Congruence below c.in-Congruence.is)
 
 pub returns-in_ok-note-in-Line-clause-goes : goal.returns-in_ok-note-in-Line-clause-goes

@@ -4,6 +4,7 @@ use Rattle.std.proofs.lemmas.List.Elements.{All-weaker}
 use Rattle.grind_congruence.specs.declared.edge.Edge.{Edge}
 use Rattle.grind_needed_edges.specs.Plans.{AreWays}
 use Rattle.grind_needed_edges.proofs.JoinLemmas.{together_from_joins}
+use Rattle.grind_needed_edges.proofs.PlanLemmas.{IsPlan-keep}
 use Rattle.grind_needed_edges.proofs.plan.Planner.cover_arg.Goals as goal
 
 pub path-requires : goal.path-requires
@@ -13,7 +14,7 @@ path-requires c =
 
 pub keep-requires-clause-ways : goal.keep-requires-clause-ways
 keep-requires-clause-ways c =
-    subst (λ (edges : List Edge). AreWays edges c.args.plan.now) (sym c.edges-edges.ensures.value) c.requires.ways
+    subst (λ (edges : List Edge). AreWays edges c.args.plan.now) (sym c.edges-edges.ensures.value) c.requires.ways.ways
 
 pub keep-requires-clause-within : goal.keep-requires-clause-within
 keep-requires-clause-within c =
@@ -26,4 +27,6 @@ returns-clause-extends c =
 
 pub returns-clause-ways : goal.returns-clause-ways
 returns-clause-ways c =
-    subst (λ (edges : List Edge). AreWays edges c.keep.new.plan) c.edges-edges.ensures.value c.in_ok-keep.ensures.ways
+    IsPlan-keep c.args.self.now.terms.now.nodes c.args.self.now.closure.now.edges c.args.self.now.whys.now c.args.self.now.left c.args.self.now.right
+    c.args.plan.now c.keep.new.plan c.args.a c.args.b c.in_ok-places.places c.requires.ways c.requires.needed c.in_ok-keep.ensures.kept
+    (subst (λ (edges : List Edge). AreWays edges c.keep.new.plan) c.edges-edges.ensures.value c.in_ok-keep.ensures.ways)
