@@ -76,29 +76,7 @@ before_colon-back (n ∷ ns) words h =
 -- what stands after the words of a rule: a colon where the rule lists nodes without their count
 abbrev Follows : Rule → List (List ℕ) → Type 0
 Follows (rules_of.Inst t ids) words = (more : List (List ℕ)) × (words ≡ codes ":" ∷ more)
-Follows (rules_of.Hyp i) words = Unit {0}
-Follows rules_of.Negated words = Unit {0}
-Follows rules_of.Branch words = Unit {0}
-Follows rules_of.Refl words = Unit {0}
-Follows rules_of.Sym words = Unit {0}
-Follows rules_of.Trans words = Unit {0}
-Follows rules_of.Cong words = Unit {0}
-Follows rules_of.Eq words = Unit {0}
-Follows rules_of.Back words = Unit {0}
-Follows rules_of.Truth words = Unit {0}
-Follows rules_of.Untruth words = Unit {0}
-Follows (rules_of.Table free) words = Unit {0}
-Follows rules_of.Read words = Unit {0}
-Follows rules_of.Write words = Unit {0}
-Follows rules_of.Line words = Unit {0}
-Follows rules_of.Poly words = Unit {0}
-Follows (rules_of.Combine divisor factors) words = Unit {0}
-Follows rules_of.Pinch words = Unit {0}
-Follows rules_of.Strict words = Unit {0}
-Follows (rules_of.Ideal divisor factors) words = Unit {0}
-Follows rules_of.Equal words = Unit {0}
-Follows rules_of.Apart words = Unit {0}
-Follows rules_of.Clash words = Unit {0}
+Follows rule words = Unit {0}
 
 -- after no premises stands a colon
 colon_first : (premises : List ℕ) (words : List (List ℕ)) → length premises ≡ 0
@@ -109,29 +87,7 @@ colon_first (p ∷ premises) words e = absurd (omega (arith, e))
 line_follows : (rule : Rule) (premises : List ℕ) (words : List (List ℕ)) → TakesPremises rule (length premises)
     → Follows rule (premise_words rule premises ++ codes ":" ∷ words)
 line_follows (rules_of.Inst t ids) premises words count = colon_first premises words count
-line_follows (rules_of.Hyp i) premises words count = tt
-line_follows rules_of.Negated premises words count = tt
-line_follows rules_of.Branch premises words count = tt
-line_follows rules_of.Refl premises words count = tt
-line_follows rules_of.Sym premises words count = tt
-line_follows rules_of.Trans premises words count = tt
-line_follows rules_of.Cong premises words count = tt
-line_follows rules_of.Eq premises words count = tt
-line_follows rules_of.Back premises words count = tt
-line_follows rules_of.Truth premises words count = tt
-line_follows rules_of.Untruth premises words count = tt
-line_follows (rules_of.Table free) premises words count = tt
-line_follows rules_of.Read premises words count = tt
-line_follows rules_of.Write premises words count = tt
-line_follows rules_of.Line premises words count = tt
-line_follows rules_of.Poly premises words count = tt
-line_follows (rules_of.Combine divisor factors) premises words count = tt
-line_follows rules_of.Pinch premises words count = tt
-line_follows rules_of.Strict premises words count = tt
-line_follows (rules_of.Ideal divisor factors) premises words count = tt
-line_follows rules_of.Equal premises words count = tt
-line_follows rules_of.Apart premises words count = tt
-line_follows rules_of.Clash premises words count = tt
+line_follows rule premises words count = tt
 
 -- the rule over whole numbers that these words begin with
 arithmetic_from : List (List ℕ) → Rule
@@ -159,34 +115,16 @@ rule_from words =
 rule_back : (rule : Rule) (words : List (List ℕ)) → RuleFits rule → Follows rule words → rule_from (rule_words rule ++ words) ≡ bare rule
 unfolding rule_from arithmetic_from
 rule_back (rules_of.Hyp i) words fits behind = ap (λ (x : ℕ). rules_of.Hyp x) (number_back i fits)
-rule_back rules_of.Negated words fits behind = refl
 rule_back (rules_of.Inst t ids) words fits behind =
     ap (λ (ws : List (List ℕ)). rules_of.Inst (number (decimal t)) (before_colon (map decimal ids ++ ws))) behind.1
     ∙ ap (λ (x : ℕ). rules_of.Inst x (before_colon (map decimal ids ++ codes ":" ∷ behind.0))) (number_back t fits.0)
     ∙ ap (λ (ns : List ℕ). rules_of.Inst t ns) (before_colon-back ids behind.0 (recursion_from_All IsShort ids fits.1))
-rule_back rules_of.Branch words fits behind = refl
-rule_back rules_of.Refl words fits behind = refl
-rule_back rules_of.Sym words fits behind = refl
-rule_back rules_of.Trans words fits behind = refl
-rule_back rules_of.Cong words fits behind = refl
-rule_back rules_of.Eq words fits behind = refl
-rule_back rules_of.Back words fits behind = refl
-rule_back rules_of.Truth words fits behind = refl
-rule_back rules_of.Untruth words fits behind = refl
 rule_back (rules_of.Table free) words fits behind =
     ap (λ (k : ℕ). rules_of.Table (first_items k (map decimal free ++ words))) (number_back (length free) fits.0)
     ∙ ap (λ (ns : List ℕ). rules_of.Table ns) (first_items-back free words (recursion_from_All IsShort free fits.1))
-rule_back rules_of.Read words fits behind = refl
-rule_back rules_of.Write words fits behind = refl
-rule_back rules_of.Line words fits behind = refl
-rule_back rules_of.Poly words fits behind = refl
 rule_back (rules_of.Combine divisor factors) words fits behind = ap (λ (z : ℤ). rules_of.Combine z []) (integer_back divisor fits)
-rule_back rules_of.Pinch words fits behind = refl
-rule_back rules_of.Strict words fits behind = refl
 rule_back (rules_of.Ideal divisor factors) words fits behind = ap (λ (z : ℤ). rules_of.Ideal z []) (integer_back divisor fits)
-rule_back rules_of.Equal words fits behind = refl
-rule_back rules_of.Apart words fits behind = refl
-rule_back rules_of.Clash words fits behind = refl
+rule_back rule words fits behind = refl
 
 same_rule : (a b : Rule) (xs ys : List (List ℕ)) → RuleFits a → RuleFits b → Follows a xs → Follows b ys → rule_words a ++ xs ≡ rule_words b ++ ys → (bare a ≡ bare b) × (xs ≡ ys)
 same_rule a b xs ys ha hb behind_a behind_b e =

@@ -7,57 +7,15 @@ use Rattle.grind_report.specs.Report.{rule_words, premise_words}
 
 -- the rule without its factors, as it stands before the premises
 abbrev pub bare : Rule → Rule
-bare (rules_of.Hyp i) = rules_of.Hyp i
-bare rules_of.Negated = rules_of.Negated
-bare (rules_of.Inst t ids) = rules_of.Inst t ids
-bare rules_of.Branch = rules_of.Branch
-bare rules_of.Refl = rules_of.Refl
-bare rules_of.Sym = rules_of.Sym
-bare rules_of.Trans = rules_of.Trans
-bare rules_of.Cong = rules_of.Cong
-bare rules_of.Eq = rules_of.Eq
-bare rules_of.Back = rules_of.Back
-bare rules_of.Truth = rules_of.Truth
-bare rules_of.Untruth = rules_of.Untruth
-bare (rules_of.Table free) = rules_of.Table free
-bare rules_of.Read = rules_of.Read
-bare rules_of.Write = rules_of.Write
-bare rules_of.Line = rules_of.Line
-bare rules_of.Poly = rules_of.Poly
 bare (rules_of.Combine divisor factors) = rules_of.Combine divisor []
-bare rules_of.Pinch = rules_of.Pinch
-bare rules_of.Strict = rules_of.Strict
-bare rules_of.Apart = rules_of.Apart
 bare (rules_of.Ideal divisor factors) = rules_of.Ideal divisor []
-bare rules_of.Equal = rules_of.Equal
-bare rules_of.Clash = rules_of.Clash
+bare rule = rule
 
 -- 0 for a rule without factors, 1 for `combine`, 2 for `ideal`
 abbrev pub kind : Rule → ℕ
-kind (rules_of.Hyp i) = 0
-kind rules_of.Negated = 0
-kind (rules_of.Inst t ids) = 0
-kind rules_of.Branch = 0
-kind rules_of.Refl = 0
-kind rules_of.Sym = 0
-kind rules_of.Trans = 0
-kind rules_of.Cong = 0
-kind rules_of.Eq = 0
-kind rules_of.Back = 0
-kind rules_of.Truth = 0
-kind rules_of.Untruth = 0
-kind (rules_of.Table free) = 0
-kind rules_of.Read = 0
-kind rules_of.Write = 0
-kind rules_of.Line = 0
-kind rules_of.Poly = 0
 kind (rules_of.Combine divisor factors) = 1
-kind rules_of.Pinch = 0
-kind rules_of.Strict = 0
-kind rules_of.Apart = 0
 kind (rules_of.Ideal divisor factors) = 2
-kind rules_of.Equal = 0
-kind rules_of.Clash = 0
+kind rule = 0
 
 -- how a rule stands to its factors
 pub data Shape : Rule → Type 0 where
@@ -66,30 +24,9 @@ pub data Shape : Rule → Type 0 where
   gathered : (divisor : ℤ) (factors : List (List Term)) → Shape (rules_of.Ideal divisor factors)
 
 pub shape : (rule : Rule) → Shape rule
-shape (rules_of.Hyp i) = plain refl refl (λ ps. refl)
-shape rules_of.Negated = plain refl refl (λ ps. refl)
-shape (rules_of.Inst t ids) = plain refl refl (λ ps. refl)
-shape rules_of.Branch = plain refl refl (λ ps. refl)
-shape rules_of.Refl = plain refl refl (λ ps. refl)
-shape rules_of.Sym = plain refl refl (λ ps. refl)
-shape rules_of.Trans = plain refl refl (λ ps. refl)
-shape rules_of.Cong = plain refl refl (λ ps. refl)
-shape rules_of.Eq = plain refl refl (λ ps. refl)
-shape rules_of.Back = plain refl refl (λ ps. refl)
-shape rules_of.Truth = plain refl refl (λ ps. refl)
-shape rules_of.Untruth = plain refl refl (λ ps. refl)
-shape (rules_of.Table free) = plain refl refl (λ ps. refl)
-shape rules_of.Read = plain refl refl (λ ps. refl)
-shape rules_of.Write = plain refl refl (λ ps. refl)
-shape rules_of.Line = plain refl refl (λ ps. refl)
-shape rules_of.Poly = plain refl refl (λ ps. refl)
 shape (rules_of.Combine divisor factors) = combined divisor factors
-shape rules_of.Pinch = plain refl refl (λ ps. refl)
-shape rules_of.Strict = plain refl refl (λ ps. refl)
-shape rules_of.Apart = plain refl refl (λ ps. refl)
 shape (rules_of.Ideal divisor factors) = gathered divisor factors
-shape rules_of.Equal = plain refl refl (λ ps. refl)
-shape rules_of.Clash = plain refl refl (λ ps. refl)
+shape rule = plain refl refl (λ ps. refl)
 
 kind_kept : {rule : Rule} → Shape rule → kind (bare rule) ≡ kind rule
 kind_kept (plain same kind_is words) = ap kind same

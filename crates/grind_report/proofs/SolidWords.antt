@@ -18,7 +18,7 @@ use Rattle.grind_claims.specs.declared.proof.Branch.{Branch}
 use Rattle.grind_claims.specs.declared.proof.Line.{Line}
 use Rattle.grind_claims.specs.declared.proof.Rule.{Rule}
 use Rattle.grind_claims.specs.declared.proof.Rule.TheVariants as rules_of
-use Rattle.grind_report.specs.Report.{RawTerm, Block, Report, True, False, Const, Fun, Int, Not, And, Or, Implies, Eq, Le, Add, Neg, Mul, Closed, Unexplored, term_words, part_words, form_words, monomial_words, poly_words, rule_words, paired, factor_first, factor_behind, premise_words, claim_words, branch_words, line_words, indexed_lines, counted_lines, block_page, end_words, report_page, IsShort, IsWide, TermFits, PartFits, FormFits, MonomialFits, PolyFits, RuleFits, FactorsFit, ClaimFits, BranchFits, LineFits, BlockFits, ReportFits}
+use Rattle.grind_report.specs.Report.{RawTerm, Block, Report, True, False, Const, Fun, Int, Not, And, Or, Implies, Eq, Le, Add, Neg, Mul, Closed, Unexplored, term_words, part_words, form_words, monomial_words, poly_words, rule_word, rule_details, rule_words, paired, factor_first, factor_behind, premise_words, claim_words, branch_words, line_words, indexed_lines, counted_lines, block_page, end_words, report_page, IsShort, IsWide, TermFits, PartFits, FormFits, MonomialFits, PolyFits, RuleFits, FactorsFit, ClaimFits, BranchFits, LineFits, BlockFits, ReportFits}
 use Rattle.grind_report.proofs.RuleShapes.{Shape, plain, combined, gathered, shape}
 use Rattle.grind_report.proofs.Spelling.{IsSolid, IsSolidLine}
 
@@ -134,33 +134,21 @@ term_solid (Add a b) fits = (written (codes "add") refl, (short_solid a fits.0, 
 term_solid (Neg a) fits = (written (codes "neg") refl, (short_solid a fits, tt))
 term_solid (Mul a b) fits = (written (codes "mul") refl, (short_solid a fits.0, (short_solid b fits.1, tt)))
 
+-- the word of a rule, and the words after it
+word_solid : (rule : Rule) → is_solid (rule_word rule) ≡ true
+word_solid (rules_of.Hyp i) = refl
+word_solid rule = refl
+
+details_solid : (rule : Rule) → RuleFits rule → AllByRecursion IsSolid (rule_details rule)
+details_solid (rules_of.Hyp i) fits = (short_solid i fits, tt)
+details_solid (rules_of.Inst t ids) fits = (short_solid t fits.0, numbers_solid ids (recursion_from_All IsShort ids fits.1))
+details_solid (rules_of.Table free) fits = (short_solid (length free) fits.0, numbers_solid free (recursion_from_All IsShort free fits.1))
+details_solid (rules_of.Combine divisor factors) fits = (signed_solid divisor fits, tt)
+details_solid (rules_of.Ideal divisor factors) fits = (signed_solid divisor fits, tt)
+details_solid rule fits = tt
+
 rule_solid : (rule : Rule) → RuleFits rule → AllByRecursion IsSolid (rule_words rule)
-rule_solid (rules_of.Hyp i) fits = (written (codes "hyp") refl, (short_solid i fits, tt))
-rule_solid rules_of.Negated fits = (written (codes "negated") refl, tt)
-rule_solid (rules_of.Inst t ids) fits =
-    (written (codes "inst") refl, (short_solid t fits.0, numbers_solid ids (recursion_from_All IsShort ids fits.1)))
-rule_solid rules_of.Branch fits = (written (codes "branch") refl, tt)
-rule_solid rules_of.Refl fits = (written (codes "refl") refl, tt)
-rule_solid rules_of.Sym fits = (written (codes "sym") refl, tt)
-rule_solid rules_of.Trans fits = (written (codes "trans") refl, tt)
-rule_solid rules_of.Cong fits = (written (codes "cong") refl, tt)
-rule_solid rules_of.Eq fits = (written (codes "eq") refl, tt)
-rule_solid rules_of.Back fits = (written (codes "back") refl, tt)
-rule_solid rules_of.Truth fits = (written (codes "truth") refl, tt)
-rule_solid rules_of.Untruth fits = (written (codes "untruth") refl, tt)
-rule_solid (rules_of.Table free) fits =
-    (written (codes "table") refl, (short_solid (length free) fits.0, numbers_solid free (recursion_from_All IsShort free fits.1)))
-rule_solid rules_of.Read fits = (written (codes "read") refl, tt)
-rule_solid rules_of.Write fits = (written (codes "write") refl, tt)
-rule_solid rules_of.Line fits = (written (codes "line") refl, tt)
-rule_solid rules_of.Poly fits = (written (codes "poly") refl, tt)
-rule_solid (rules_of.Combine divisor factors) fits = (written (codes "combine") refl, (signed_solid divisor fits, tt))
-rule_solid rules_of.Pinch fits = (written (codes "pinch") refl, tt)
-rule_solid rules_of.Strict fits = (written (codes "strict") refl, tt)
-rule_solid (rules_of.Ideal divisor factors) fits = (written (codes "ideal") refl, (signed_solid divisor fits, tt))
-rule_solid rules_of.Equal fits = (written (codes "equal") refl, tt)
-rule_solid rules_of.Apart fits = (written (codes "apart") refl, tt)
-rule_solid rules_of.Clash fits = (written (codes "clash") refl, tt)
+rule_solid rule fits = (written (rule_word rule) (word_solid rule), details_solid rule fits)
 
 premise_solid : {rule : Rule} → Shape rule → (ps : List ℕ) → FactorsFit rule → AllByRecursion IsShort ps → AllByRecursion IsSolid (premise_words rule ps)
 premise_solid (plain same kind_is words) ps fits short =

@@ -1,5 +1,5 @@
 -- What a report is: its lines of words, and the bytes that spell them.
-use Rattle.std.specs.Prelude.{◌≡◌, ◌⊎◌, ℕ, ◌+◌, ◌<◌, ◌^◌, List, [], ◌∷◌, ◌++◌, length, map, flat_map, All, codes, decimal, ℤ, FitsSigned}
+use Rattle.std.specs.Prelude.{◌≡◌, ℕ, ◌+◌, ◌<◌, ◌^◌, List, [], ◌∷◌, ◌++◌, length, map, flat_map, All, codes, decimal, ℤ, FitsSigned}
 use Rattle.std.specs.Fmt.{signed_decimal}
 use Rattle.std.specs.Int.{w128}
 use Rattle.grind_schemes.specs.Labels.{IsLabel}
@@ -13,6 +13,7 @@ use Rattle.grind_claims.specs.declared.proof.Branch.{Branch}
 use Rattle.grind_claims.specs.declared.proof.Line.{Line}
 use Rattle.grind_claims.specs.declared.proof.Rule.{Rule}
 use Rattle.grind_claims.specs.declared.proof.Rule.TheVariants as rules
+use Rattle.grind_rules.specs.Laws.{IsPremiseCount}
 
 -- a term as a report names it: by the names of constants and functions, by whole numbers, and by the indices of terms before it
 pub data RawTerm : Type 0 where
@@ -46,22 +47,43 @@ pub data Block : Type 0 where
 pub record Report : Type 0 where
   pub blocks : List Block
 
+-- the word that a term begins with
+abbrev pub term_word : RawTerm → List ℕ
+term_word True = codes "true"
+term_word False = codes "false"
+term_word (Const name) = codes "const"
+term_word (Fun name args) = codes "fun"
+term_word (Int value) = codes "int"
+term_word (Not a) = codes "not"
+term_word (And a b) = codes "and"
+term_word (Or a b) = codes "or"
+term_word (Implies a b) = codes "implies"
+term_word (Eq a b) = codes "eq"
+term_word (Le a b) = codes "le"
+term_word (Add a b) = codes "add"
+term_word (Neg a) = codes "neg"
+term_word (Mul a b) = codes "mul"
+
+-- the words after it
+abbrev pub term_details : RawTerm → List (List ℕ)
+term_details True = []
+term_details False = []
+term_details (Const name) = name ∷ []
+term_details (Fun name args) = name ∷ map decimal args
+term_details (Int value) = signed_decimal value ∷ []
+term_details (Not a) = decimal a ∷ []
+term_details (And a b) = decimal a ∷ decimal b ∷ []
+term_details (Or a b) = decimal a ∷ decimal b ∷ []
+term_details (Implies a b) = decimal a ∷ decimal b ∷ []
+term_details (Eq a b) = decimal a ∷ decimal b ∷ []
+term_details (Le a b) = decimal a ∷ decimal b ∷ []
+term_details (Add a b) = decimal a ∷ decimal b ∷ []
+term_details (Neg a) = decimal a ∷ []
+term_details (Mul a b) = decimal a ∷ decimal b ∷ []
+
 -- the words of a term
 abbrev pub term_words : RawTerm → List (List ℕ)
-term_words True = codes "true" ∷ []
-term_words False = codes "false" ∷ []
-term_words (Const name) = codes "const" ∷ name ∷ []
-term_words (Fun name args) = codes "fun" ∷ name ∷ map decimal args
-term_words (Int value) = codes "int" ∷ signed_decimal value ∷ []
-term_words (Not a) = codes "not" ∷ decimal a ∷ []
-term_words (And a b) = codes "and" ∷ decimal a ∷ decimal b ∷ []
-term_words (Or a b) = codes "or" ∷ decimal a ∷ decimal b ∷ []
-term_words (Implies a b) = codes "implies" ∷ decimal a ∷ decimal b ∷ []
-term_words (Eq a b) = codes "eq" ∷ decimal a ∷ decimal b ∷ []
-term_words (Le a b) = codes "le" ∷ decimal a ∷ decimal b ∷ []
-term_words (Add a b) = codes "add" ∷ decimal a ∷ decimal b ∷ []
-term_words (Neg a) = codes "neg" ∷ decimal a ∷ []
-term_words (Mul a b) = codes "mul" ∷ decimal a ∷ decimal b ∷ []
+term_words term = term_word term ∷ term_details term
 
 -- the words of a node with its coefficient
 abbrev pub part_words : Part → List (List ℕ)
@@ -79,33 +101,46 @@ monomial_words term = signed_decimal term.coefficient ∷ decimal (length term.m
 abbrev pub poly_words : List Term → List (List ℕ)
 poly_words poly = decimal (length poly) ∷ flat_map monomial_words poly
 
--- the words of a rule, before its premises. Those of `table` count the free nodes, and list them; those of `inst` list the
--- nodes up to the colon, since the rule has no premise; the factors of `combine` and `ideal` stand among the premises
+-- the word that a rule begins with
+abbrev pub rule_word : Rule → List ℕ
+rule_word (rules.Hyp i) = codes "hyp"
+rule_word rules.Negated = codes "negated"
+rule_word (rules.Inst t subst) = codes "inst"
+rule_word rules.Branch = codes "branch"
+rule_word rules.Refl = codes "refl"
+rule_word rules.Sym = codes "sym"
+rule_word rules.Trans = codes "trans"
+rule_word rules.Cong = codes "cong"
+rule_word rules.Eq = codes "eq"
+rule_word rules.Back = codes "back"
+rule_word rules.Truth = codes "truth"
+rule_word rules.Untruth = codes "untruth"
+rule_word (rules.Table free) = codes "table"
+rule_word rules.Read = codes "read"
+rule_word rules.Write = codes "write"
+rule_word rules.Line = codes "line"
+rule_word rules.Poly = codes "poly"
+rule_word (rules.Combine divisor factors) = codes "combine"
+rule_word rules.Pinch = codes "pinch"
+rule_word rules.Strict = codes "strict"
+rule_word rules.Apart = codes "apart"
+rule_word (rules.Ideal divisor factors) = codes "ideal"
+rule_word rules.Equal = codes "equal"
+rule_word rules.Clash = codes "clash"
+
+-- the words after it, before the premises: `table` counts the free nodes, and lists them; `inst` lists its nodes up to the
+-- colon, since it has no premise; the factors of `combine` and `ideal` stand among the premises
+abbrev pub rule_details : Rule → List (List ℕ)
+rule_details (rules.Hyp i) = decimal i ∷ []
+rule_details (rules.Inst t subst) = decimal t ∷ map decimal subst
+rule_details (rules.Table free) = decimal (length free) ∷ map decimal free
+rule_details (rules.Combine divisor factors) = signed_decimal divisor ∷ []
+rule_details (rules.Ideal divisor factors) = signed_decimal divisor ∷ []
+rule_details rule = []
+
+-- the words of a rule, before its premises
 abbrev pub rule_words : Rule → List (List ℕ)
-rule_words (rules.Hyp i) = codes "hyp" ∷ decimal i ∷ []
-rule_words rules.Negated = codes "negated" ∷ []
-rule_words (rules.Inst t subst) = codes "inst" ∷ decimal t ∷ map decimal subst
-rule_words rules.Branch = codes "branch" ∷ []
-rule_words rules.Refl = codes "refl" ∷ []
-rule_words rules.Sym = codes "sym" ∷ []
-rule_words rules.Trans = codes "trans" ∷ []
-rule_words rules.Cong = codes "cong" ∷ []
-rule_words rules.Eq = codes "eq" ∷ []
-rule_words rules.Back = codes "back" ∷ []
-rule_words rules.Truth = codes "truth" ∷ []
-rule_words rules.Untruth = codes "untruth" ∷ []
-rule_words (rules.Table free) = codes "table" ∷ decimal (length free) ∷ map decimal free
-rule_words rules.Read = codes "read" ∷ []
-rule_words rules.Write = codes "write" ∷ []
-rule_words rules.Line = codes "line" ∷ []
-rule_words rules.Poly = codes "poly" ∷ []
-rule_words (rules.Combine divisor factors) = codes "combine" ∷ signed_decimal divisor ∷ []
-rule_words rules.Pinch = codes "pinch" ∷ []
-rule_words rules.Strict = codes "strict" ∷ []
-rule_words rules.Apart = codes "apart" ∷ []
-rule_words (rules.Ideal divisor factors) = codes "ideal" ∷ signed_decimal divisor ∷ []
-rule_words rules.Equal = codes "equal" ∷ []
-rule_words rules.Clash = codes "clash" ∷ []
+rule_words rule = rule_word rule ∷ rule_details rule
 
 -- the words of factors and of the premises that they belong to
 abbrev pub paired : {A : Type 0} → (A → ℕ → List (List ℕ)) → List A → List ℕ → List (List ℕ)
@@ -123,30 +158,9 @@ factor_behind factor premise = decimal premise ∷ poly_words factor
 
 -- the words of a rule's premises, with their factors if the rule has such
 abbrev pub premise_words : Rule → List ℕ → List (List ℕ)
-premise_words (rules.Hyp i) premises = map decimal premises
-premise_words rules.Negated premises = map decimal premises
-premise_words (rules.Inst t subst) premises = map decimal premises
-premise_words rules.Branch premises = map decimal premises
-premise_words rules.Refl premises = map decimal premises
-premise_words rules.Sym premises = map decimal premises
-premise_words rules.Trans premises = map decimal premises
-premise_words rules.Cong premises = map decimal premises
-premise_words rules.Eq premises = map decimal premises
-premise_words rules.Back premises = map decimal premises
-premise_words rules.Truth premises = map decimal premises
-premise_words rules.Untruth premises = map decimal premises
-premise_words (rules.Table free) premises = map decimal premises
-premise_words rules.Read premises = map decimal premises
-premise_words rules.Write premises = map decimal premises
-premise_words rules.Line premises = map decimal premises
-premise_words rules.Poly premises = map decimal premises
 premise_words (rules.Combine divisor factors) premises = paired factor_first factors premises
-premise_words rules.Pinch premises = map decimal premises
-premise_words rules.Strict premises = map decimal premises
-premise_words rules.Apart premises = map decimal premises
 premise_words (rules.Ideal divisor factors) premises = paired factor_behind factors premises
-premise_words rules.Equal premises = map decimal premises
-premise_words rules.Clash premises = map decimal premises
+premise_words rule premises = map decimal premises
 
 -- the words of a claim
 abbrev pub claim_words : Claim → List (List ℕ)
@@ -260,83 +274,22 @@ pub record PolyFits (poly : List Term) : Type 0 where
 -- a rule that can be spelled: its numbers are short, and its divisor has at most 128 bits
 abbrev pub RuleFits : Rule → Type 0
 RuleFits (rules.Hyp i) = IsShort i
-RuleFits rules.Negated = Unit {0}
 RuleFits (rules.Inst t subst) = IsShort t × All IsShort subst
-RuleFits rules.Branch = Unit {0}
-RuleFits rules.Refl = Unit {0}
-RuleFits rules.Sym = Unit {0}
-RuleFits rules.Trans = Unit {0}
-RuleFits rules.Cong = Unit {0}
-RuleFits rules.Eq = Unit {0}
-RuleFits rules.Back = Unit {0}
-RuleFits rules.Truth = Unit {0}
-RuleFits rules.Untruth = Unit {0}
 RuleFits (rules.Table free) = IsShort (length free) × All IsShort free
-RuleFits rules.Read = Unit {0}
-RuleFits rules.Write = Unit {0}
-RuleFits rules.Line = Unit {0}
-RuleFits rules.Poly = Unit {0}
 RuleFits (rules.Combine divisor factors) = IsWide divisor
-RuleFits rules.Pinch = Unit {0}
-RuleFits rules.Strict = Unit {0}
-RuleFits rules.Apart = Unit {0}
 RuleFits (rules.Ideal divisor factors) = IsWide divisor
-RuleFits rules.Equal = Unit {0}
-RuleFits rules.Clash = Unit {0}
+RuleFits rule = Unit {0}
 
 -- and so can its factors, if it has such
 abbrev pub FactorsFit : Rule → Type 0
-FactorsFit (rules.Hyp i) = Unit {0}
-FactorsFit rules.Negated = Unit {0}
-FactorsFit (rules.Inst t subst) = Unit {0}
-FactorsFit rules.Branch = Unit {0}
-FactorsFit rules.Refl = Unit {0}
-FactorsFit rules.Sym = Unit {0}
-FactorsFit rules.Trans = Unit {0}
-FactorsFit rules.Cong = Unit {0}
-FactorsFit rules.Eq = Unit {0}
-FactorsFit rules.Back = Unit {0}
-FactorsFit rules.Truth = Unit {0}
-FactorsFit rules.Untruth = Unit {0}
-FactorsFit (rules.Table free) = Unit {0}
-FactorsFit rules.Read = Unit {0}
-FactorsFit rules.Write = Unit {0}
-FactorsFit rules.Line = Unit {0}
-FactorsFit rules.Poly = Unit {0}
 FactorsFit (rules.Combine divisor factors) = All IsWide factors
-FactorsFit rules.Pinch = Unit {0}
-FactorsFit rules.Strict = Unit {0}
-FactorsFit rules.Apart = Unit {0}
 FactorsFit (rules.Ideal divisor factors) = All PolyFits factors
-FactorsFit rules.Equal = Unit {0}
-FactorsFit rules.Clash = Unit {0}
+FactorsFit rule = Unit {0}
 
--- a rule is printed with so many premises: `combine` and `ideal` with one for each factor
+-- a rule is printed with as many premises as it asks for, and `cong` with any number
 abbrev pub TakesPremises : Rule → ℕ → Type 0
-TakesPremises (rules.Hyp i) count = count ≡ 0
-TakesPremises rules.Negated count = count ≡ 0
-TakesPremises (rules.Inst t subst) count = count ≡ 0
-TakesPremises rules.Branch count = count ≡ 0
-TakesPremises rules.Refl count = count ≡ 0
-TakesPremises rules.Sym count = count ≡ 1
-TakesPremises rules.Trans count = count ≡ 2
 TakesPremises rules.Cong count = Unit {0}
-TakesPremises rules.Eq count = count ≡ 1
-TakesPremises rules.Back count = count ≡ 1
-TakesPremises rules.Truth count = count ≡ 1
-TakesPremises rules.Untruth count = count ≡ 1
-TakesPremises (rules.Table free) count = Unit {0}
-TakesPremises rules.Read count = count ≡ 1
-TakesPremises rules.Write count = count ≡ 1
-TakesPremises rules.Line count = count ≡ 1
-TakesPremises rules.Poly count = count ≡ 1
-TakesPremises (rules.Combine divisor factors) count = count ≡ length factors
-TakesPremises rules.Pinch count = count ≡ 2
-TakesPremises rules.Strict count = count ≡ 2
-TakesPremises rules.Apart count = (count ≡ 0) ⊎ ((count ≡ 1) ⊎ (count ≡ 3))
-TakesPremises (rules.Ideal divisor factors) count = count ≡ length factors
-TakesPremises rules.Equal count = count ≡ 1
-TakesPremises rules.Clash count = (count ≡ 1) ⊎ (count ≡ 2)
+TakesPremises rule count = IsPremiseCount rule count
 
 -- a claim that can be spelled
 abbrev pub ClaimFits : Claim → Type 0

@@ -1,7 +1,6 @@
 //! The words of a rule.
 ghost use Rattle.std.specs.Prelude.{◌≡◌, ◌++◌, length, All, OnOk};
-ghost use Rattle.grind_report.specs.Report.{spaced, rule_words, premise_words, IsShort, RuleFits, FactorsFit, TakesPremises};
-ghost use Rattle.grind_report.specs.Parts.{rule_word, rule_details};
+ghost use Rattle.grind_report.specs.Report.{spaced, rule_word, rule_details, rule_words, premise_words, IsShort, RuleFits, FactorsFit, TakesPremises};
 
 use crate::report::{forms, words};
 use grind_outside::{List, Memory};

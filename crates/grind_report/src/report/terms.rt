@@ -1,10 +1,10 @@
 //! The lines of terms.
-ghost use Rattle.std.specs.Prelude.{◌≡◌, ◌<◌, ◌++◌, ◌∷◌, [], length, map, All, OnOk, decimal, codes};
+ghost use Rattle.std.specs.Prelude.{◌≡◌, ◌<◌, ◌++◌, ◌∷◌, ℕ, List as Sequence, [], length, map, All, OnOk, decimal};
 ghost use Rattle.grind_schemes.specs.Labels.{IsLabel};
 ghost use Rattle.grind_schemes.specs.declared.goal.Constant.{Constant as GoalConstant};
-ghost use Rattle.grind_report.specs.Report.{spaced, line_bytes, IsShort, TermFits};
-ghost use Rattle.grind_report.specs.Naming.{constant_name, function_name, node_words, term_of, HasTerm};
-ghost use Rattle.grind_report.specs.Parts.{head_word, head_details};
+ghost use Rattle.grind_signature.specs.Signatures.{SignatureData};
+ghost use Rattle.grind_report.specs.Report.{spaced, line_bytes, term_word, term_details, IsShort, TermFits};
+ghost use Rattle.grind_report.specs.Naming.{constant_name, function_name, node_words, term_of_head, term_of, HasTerm};
 
 use crate::report::words;
 use grind_outside::{List, Memory};
@@ -14,7 +14,8 @@ use grind_term_graph::{FunId, Head, Node, NodeId};
 
 /// The word that a term of this head begins with.
 fn word_of_head(head: Head) -> &'static [u8]
-    ensures { result.now ≡ head_word head }
+    ensures { (signature : SignatureData) (constants : Sequence GoalConstant) (args : Sequence ℕ) →
+        result.now ≡ term_word (term_of_head signature constants args head) }
 {
     match head {
         Head::True => b"true",
@@ -76,7 +77,7 @@ fn put_details(
     requires named { HasTerm signature.now constants.now node.now }
     requires labels { All (λ (constant : GoalConstant). IsLabel constant.name) constants.now }
     ensures text { OnOk result (out.new
-        ≡ out.old ++ spaced (head_details signature.now constants.now node.now.args node.now.head)) }
+        ≡ out.old ++ spaced (term_details (term_of signature.now constants.now node.now))) }
     ensures fits { OnOk result (TermFits (term_of signature.now constants.now node.now)) }
 {
     match node.head {
