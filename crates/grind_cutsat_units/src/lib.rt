@@ -4,8 +4,8 @@
 
 pub mod drafting;
 pub mod laws;
-mod posts;
-mod sides;
+pub mod posts;
+pub mod sides;
 pub mod types;
 pub mod units;
 

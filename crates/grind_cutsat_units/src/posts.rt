@@ -12,7 +12,7 @@ use grind_outside::{List, Memory};
 use std::alloc::Global;
 
 /// One post, from one claim.
-pub(crate) fn one_post(
+pub fn one_post(
     alloc: Global,
     claim: Claim,
     rule: Rule,
@@ -26,7 +26,7 @@ pub(crate) fn one_post(
 }
 
 /// One post by the rule `combine` with the divisor 1, from one claim taken so often.
-pub(crate) fn combine_post(
+pub fn combine_post(
     alloc: Global,
     form: Form,
     factor: i128,
@@ -45,7 +45,7 @@ pub(crate) fn combine_post(
 }
 
 /// One post by the rule `strict`, from the difference of the two and a bound.
-pub(crate) fn strict_post(
+pub fn strict_post(
     alloc: Global,
     form: Form,
     sides: &Sides,
@@ -67,7 +67,7 @@ pub(crate) fn strict_post(
 }
 
 /// Puts a post at the end, from one claim.
-pub(crate) fn put_post(
+pub fn put_post(
     alloc: Global,
     posts: &mut List<Planned>,
     claim: Claim,

@@ -14,11 +14,7 @@ use grind_term_graph::{Head, NodeId, TermTable};
 use std::alloc::Global;
 
 /// The form by which a literal of a comparison is read, where its numbers fit.
-pub(crate) fn form_read(
-    alloc: Global,
-    terms: &TermTable,
-    literal: &Claim,
-) -> Result<Option<Form>, Memory>
+pub fn form_read(alloc: Global, terms: &TermTable, literal: &Claim) -> Result<Option<Form>, Memory>
     ensures { IfOk result (λ found. MatchOption found ((form : _) → ¬ IsRead terms.now.nodes (literal.now ∷ []) (AtMost form))
         (λ form. IsRead terms.now.nodes (literal.now ∷ []) (AtMost form))) }
 {
@@ -63,7 +59,7 @@ fn failed_bound(alloc: Global, terms: &TermTable, node: NodeId) -> Result<Option
 }
 
 /// The form and 1, where that fits.
-pub(crate) fn one_more(form: Form) -> Option<Form>
+pub fn one_more(form: Form) -> Option<Form>
     ensures { MatchOption result (FitsSigned w128 (form.constant +ℤ pos 1) → ⊥)
         (λ more. (more ≡ plus form (pos 1)) × FitsSigned w128 more.constant) }
 {
@@ -77,7 +73,7 @@ pub(crate) fn one_more(form: Form) -> Option<Form>
 
 /// Two sides, in this order.
 #[derive(Clone, Copy)]
-pub(crate) struct Sides {
+pub struct Sides {
     /// The first side.
     pub left: NodeId,
     /// The second side.
@@ -85,7 +81,7 @@ pub(crate) struct Sides {
 }
 
 /// The sides of a comparison.
-pub(crate) fn sides_of(terms: &TermTable, node: NodeId) -> Option<Sides>
+pub fn sides_of(terms: &TermTable, node: NodeId) -> Option<Sides>
     ensures some { IfSome result (λ sides. IsComparison terms.now.nodes node sides.left sides.right) }
     ensures none { IfNone result ((a b : ℕ) → ¬ IsComparison terms.now.nodes node a b) }
 {
@@ -101,7 +97,7 @@ pub(crate) fn sides_of(terms: &TermTable, node: NodeId) -> Option<Sides>
 
 #[tactic(auto, using(crate::proofs::SideLemmas::two_items))]
 /// The two arguments, where there are two.
-fn two_sides(args: &[NodeId]) -> Option<Sides>
+pub fn two_sides(args: &[NodeId]) -> Option<Sides>
     ensures some { IfSome result (λ sides. args.now ≡ sides.left ∷ sides.right ∷ []) }
     ensures none { IfNone result ((a b : ℕ) → ¬ (args.now ≡ a ∷ b ∷ [])) }
 {

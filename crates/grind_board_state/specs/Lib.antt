@@ -1,0 +1,4 @@
+pub mod Agents
+pub mod Reads
+pub mod States
+pub mod Beginnings

@@ -1,0 +1,4 @@
+pub mod Truths
+pub mod Clashes
+pub mod Steps
+pub mod Laws

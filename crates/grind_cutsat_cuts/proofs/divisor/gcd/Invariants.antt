@@ -1,0 +1,9 @@
+use Rattle.std.specs.Prelude.{ℕ}
+use Rattle.std.specs.Int.{IsGcd}
+use Rattle.grind_cutsat_cuts.proofs.divisor.gcd.Given as goal
+
+abbrev pub invariant-loop-small : goal.invariant-loop-small
+invariant-loop-small l = (g : ℕ) → IsGcd l.large l.small g → IsGcd l.fn.a l.fn.b g
+
+abbrev pub decreases-loop-small : goal.decreases-loop-small
+decreases-loop-small l = l.small

@@ -1,0 +1,10 @@
+use Rattle.std.proofs.Common.{length}
+use Rattle.grind_cutsat_units.specs.Passing.{IsPassed}
+use Rattle.grind_cutsat_cuts.specs.Resolving.{LowerGives}
+use Rattle.grind_cutsat_cuts.proofs.units.resolves_two_bounds.lower_of_some.Given as goal
+
+abbrev pub invariant-loop-fact : goal.invariant-loop-fact
+invariant-loop-fact l = IsPassed (LowerGives l.view.facts.now l.upper) l.view.facts.now l.rest
+
+abbrev pub decreases-loop-fact : goal.decreases-loop-fact
+decreases-loop-fact l = length l.rest

@@ -1,0 +1,4 @@
+pub mod Divisors
+pub mod Factors
+pub mod Cutting
+pub mod Resolving

@@ -1,0 +1,4 @@
+pub mod Posts
+pub mod Joins
+pub mod Typed
+pub mod Laws

@@ -1,0 +1,2 @@
+mod LearnLemmas
+pub mod FitLemmas
