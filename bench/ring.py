@@ -95,7 +95,8 @@ def row(program, name, make, size, before, longest):
     added = sum(line.startswith("added") for line in lines)
     equal = sum(line.startswith("equal") for line in lines)
     growth = f"{seconds / before:.2f}" if before else ""
-    print(f"| {name} | {size} | {added} | {equal} | {lines[-1]} | {seconds:.3f} | {growth} |", flush=True)
+    last = [line for line in lines if not line.startswith("basis")][-1]
+    print(f"| {name} | {size} | {added} | {equal} | {last} | {seconds:.3f} | {growth} |", flush=True)
     return seconds
 
 

@@ -4,3 +4,4 @@ pub mod StateLemmas
 pub mod EqualLemmas
 pub mod TypedLemmas
 pub mod RestLemmas
+pub mod AgendaLemmas

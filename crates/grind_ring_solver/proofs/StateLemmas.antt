@@ -60,7 +60,7 @@ module _ (basis : Basis) (it : Fact) (is : IsBasis basis) where
   }
 
 -- ---- what is reduced to 0 stays so
-both : (bs : List (List Term)) → All (λ b. IsPoly b) bs → All (λ b. b ≢ []) bs → All (λ b. IsPoly b × (b ≢ [])) bs
+pub both : (bs : List (List Term)) → All (λ b. IsPoly b) bs → All (λ b. b ≢ []) bs → All (λ b. IsPoly b × (b ≢ [])) bs
 both [] polys some = All-nil (λ (b : List Term). IsPoly b × (b ≢ []))
 both (b ∷ bs) polys some =
     All-cons (λ (b : List Term). IsPoly b × (b ≢ [])) b bs

@@ -8,6 +8,7 @@ use Rattle.grind_claims.specs.declared.claim.Claim.TheVariants.{Holds, Fails, Sa
 use Rattle.grind_ring_basis.specs.declared.types.Basis.{Basis}
 use Rattle.grind_ring_basis.specs.declared.types.Fact.{Fact}
 use Rattle.grind_ring_basis.specs.Bases.{fact, IsBasis, IsElement, ReducesToZero}
+use Rattle.grind_ring_units.specs.declared.types.Agenda.{Agenda}
 use Rattle.grind_ring_units.specs.declared.types.State.{State}
 use Rattle.grind_ring_units.specs.Given.{equality, Knows}
 
@@ -42,6 +43,10 @@ nothing_known limit = record {
   own = [];
   basis = record { posts = []; elements = [] };
 }
+
+-- no pairs of basis elements were looked at
+abbrev pub no_agenda : Agenda
+no_agenda = record { rows = 0; pairs = [] }
 
 -- an equality was taken
 abbrev pub with_equality : State → ℕ → ℕ → ℕ → State

@@ -4,19 +4,18 @@ ghost use Rattle.grind_arithmetic_rules.specs.PolyRules.{CoefficientsFit};
 ghost use Rattle.grind_ring_basis.specs.Bases.{fact, ReducesToZero};
 ghost use Rattle.grind_ring_units.specs.Given.{Knows};
 ghost use Rattle.grind_ring_units.specs.Scans.{MayJoin};
+ghost use Rattle.grind_ring_units.specs.Agendas.{IsAgenda};
 ghost use Rattle.grind_ring_solver.specs.Given.{IsIrreducible, IsState, with_equality, with_fact, IsTaken};
 ghost use Rattle.grind_ring_solver.specs.Steps.{with_element, joined, added, noted, IsStep};
 ghost use Rattle.grind_ring_solver.specs.Decisions.{is_ideal_rule, added_step, equal_step};
 
-use crate::decision::{Decision, decide};
+use crate::decision::{Decision, Setting, decide};
 use crate::types::RingStep;
 use grind_claims::{Claim, Rule};
-use grind_classes::Classes;
 use grind_outside::Memory;
 use grind_polynomials::Poly;
 use grind_ring_basis::{Basis, Combination, Fact};
-use grind_ring_units::{EqualTerms, Equality, State};
-use grind_term_graph::TermTable;
+use grind_ring_units::{Agenda, EqualTerms, Equality, State};
 use std::alloc::Global;
 
 // The element joins the basis; where memory was wanted, the basis is as it was.
@@ -192,15 +191,17 @@ pub(crate) fn take(alloc: Global, state: &mut State, post: u32, claim: &Claim) -
 pub(crate) fn answer(
     alloc: Global,
     state: &mut State,
-    terms: &TermTable,
-    classes: &Classes,
+    agenda: &mut Agenda,
+    setting: &Setting,
     next: u32,
 ) -> Result<RingStep, Memory>
-    requires { IsState state.old }
-    ensures ok { IfOk result (λ step. IsStep state.old terms.now.nodes classes.now.lists next step state.new) }
+    requires state { IsState state.old }
+    requires agenda { IsAgenda state.old.basis agenda.old }
+    ensures ok { IfOk result (λ step. IsStep state.old setting.now.terms.now.nodes setting.now.classes.now.lists next step state.new) }
     ensures keeps { IsState state.new }
+    ensures agenda { OnOk result (IsAgenda state.old.basis agenda.new) }
 {
-    let decision = decide(alloc, state, terms, classes)?;
+    let decision = decide(alloc, state, agenda, setting)?;
     match decision {
         Decision::Zeroed(post) => Ok(RingStep::Zeroed { post }),
         Decision::Joins(it) => {

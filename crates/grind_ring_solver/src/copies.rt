@@ -4,7 +4,7 @@ ghost use Rattle.std.specs.Prelude.{◌≡◌, IfOk};
 use grind_outside::{List, Memory};
 use grind_polynomials::Poly;
 use grind_ring_basis::{Basis, Fact};
-use grind_ring_units::State;
+use grind_ring_units::{Agenda, State};
 use std::alloc::Global;
 
 // The facts once more.
@@ -64,5 +64,17 @@ pub(crate) fn state_copied(alloc: Global, state: &State) -> Result<State, Memory
         taken,
         own,
         basis,
+    })
+}
+
+// The agenda once more.
+pub(crate) fn agenda_copied(alloc: Global, agenda: &Agenda) -> Result<Agenda, Memory>
+    ensures { IfOk result (λ copy. copy ≡ agenda.now) }
+{
+    let mut pairs = List::new(alloc);
+    pairs.extend(agenda.pairs.as_slice())?;
+    Ok(Agenda {
+        rows: agenda.rows,
+        pairs,
     })
 }

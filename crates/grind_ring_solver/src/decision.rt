@@ -1,10 +1,11 @@
 //! The first of the answers that stands.
-ghost use Rattle.std.specs.Prelude.{◌≡◌, IfOk, length};
+ghost use Rattle.std.specs.Prelude.{◌≡◌, IfOk, OnOk, length};
 ghost use Rattle.grind_ring_basis.specs.Bases.{IsBasis};
 ghost use Rattle.grind_ring_units.specs.Zeroed.{NoneZeroed, AllRead};
 ghost use Rattle.grind_ring_units.specs.Conflicts.{NoContradiction};
 ghost use Rattle.grind_ring_units.specs.EqualTerms.{NoEqualTerms};
 ghost use Rattle.grind_ring_units.specs.Scans.{AreMarkedPosts, no_posts};
+ghost use Rattle.grind_ring_units.specs.Agendas.{IsAgenda};
 ghost use Rattle.grind_ring_solver.specs.Decisions.{first_of, both_of, AreBlocked, IsDecision, IsDecisionAtEnd};
 
 use grind_classes::Classes;
@@ -12,8 +13,8 @@ use grind_outside::Memory;
 use grind_polynomials::Poly;
 use grind_ring_basis::{Combination, Fact};
 use grind_ring_units::{
-    EqualTerms, Marks, Posts, Scan, State, first_conflict, first_equal, first_unread, first_zeroed,
-    scan_pairs, scan_posts,
+    Agenda, EqualTerms, Marks, Posts, Scan, State, first_conflict, first_equal, first_unread,
+    first_zeroed, scan_pairs, scan_posts,
 };
 use grind_term_graph::TermTable;
 use std::alloc::Global;
@@ -39,17 +40,26 @@ pub(crate) enum Decision {
     Rest,
 }
 
+// The terms and their classes.
+#[derive(Drop)]
+pub(crate) struct Setting<'a> {
+    pub(crate) terms: &'a TermTable,
+    pub(crate) classes: &'a Classes,
+}
+
 // The first of the answers that stands.
 pub(crate) fn decide(
     alloc: Global,
     state: &State,
-    terms: &TermTable,
-    classes: &Classes,
+    agenda: &mut Agenda,
+    setting: &Setting,
 ) -> Result<Decision, Memory>
-    requires { IsBasis state.now.basis }
-    ensures { IfOk result (λ decision. IsDecision state.now terms.now.nodes classes.now.lists decision) }
+    requires basis { IsBasis state.now.basis }
+    requires agenda { IsAgenda state.now.basis agenda.old }
+    ensures decision { IfOk result (λ decision. IsDecision state.now setting.now.terms.now.nodes setting.now.classes.now.lists decision) }
+    ensures agenda { OnOk result (IsAgenda state.now.basis agenda.new) }
 {
-    let zeroed = first_zeroed(alloc, state, terms)?;
+    let zeroed = first_zeroed(alloc, state, setting.terms)?;
     if let Some(post) = zeroed {
         return Ok(Decision::Zeroed(post));
     }
@@ -58,7 +68,7 @@ pub(crate) fn decide(
         Scan::Own(it) => Ok(Decision::Joins(it)),
         Scan::Form { rest, line } => Ok(Decision::Adds { rest, line }),
         Scan::Nothing(posts) => {
-            let decision = decide_at_pairs(alloc, state, terms, classes, posts)?;
+            let decision = decide_at_pairs(alloc, state, agenda, setting, posts)?;
             Ok(decision)
         }
     }
@@ -68,22 +78,24 @@ pub(crate) fn decide(
 fn decide_at_pairs(
     alloc: Global,
     state: &State,
-    terms: &TermTable,
-    classes: &Classes,
+    agenda: &mut Agenda,
+    setting: &Setting,
     posts: Marks,
 ) -> Result<Decision, Memory>
     requires basis { IsBasis state.now.basis }
-    requires zeroed { NoneZeroed state.now terms.now.nodes }
+    requires agenda { IsAgenda state.now.basis agenda.old }
+    requires zeroed { NoneZeroed state.now setting.now.terms.now.nodes }
     requires posts { AreMarkedPosts state.now no_posts posts }
-    ensures { IfOk result (λ decision. IsDecision state.now terms.now.nodes classes.now.lists decision) }
+    ensures decision { IfOk result (λ decision. IsDecision state.now setting.now.terms.now.nodes setting.now.classes.now.lists decision) }
+    ensures agenda { OnOk result (IsAgenda state.now.basis agenda.new) }
 {
-    let scan = scan_pairs(alloc, state)?;
+    let scan = scan_pairs(alloc, state, agenda)?;
     match scan {
         Scan::Own(_) => Ok(Decision::Rest),
         Scan::Form { rest, line } => Ok(Decision::Adds { rest, line }),
         Scan::Nothing(pairs) => {
             let marks = both_of(posts, pairs);
-            let decision = decide_at_terms(alloc, state, terms, classes, marks)?;
+            let decision = decide_at_terms(alloc, state, setting.terms, setting.classes, marks)?;
             Ok(decision)
         }
     }

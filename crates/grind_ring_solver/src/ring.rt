@@ -1,37 +1,50 @@
 //! The solver.
 ghost use Rattle.std.specs.Prelude.{◌≡◌, IfOk, OnOk};
-ghost use Rattle.grind_ring_solver.specs.Given.{nothing_known, IsTaken};
+ghost use Rattle.grind_ring_solver.specs.Given.{nothing_known, no_agenda, IsTaken};
 ghost use Rattle.grind_ring_solver.specs.Steps.{IsStep};
 
 use crate::changes::{answer, take};
-use crate::copies::state_copied;
+use crate::copies::{agenda_copied, state_copied};
+use crate::decision::Setting;
 use crate::types::RingStep;
 use grind_claims::Claim;
 use grind_classes::Classes;
 use grind_outside::{List, Memory};
 use grind_ring_basis::Basis;
-use grind_ring_units::State;
+use grind_ring_units::{Agenda, State};
 use grind_term_graph::TermTable;
 use std::alloc::Global;
 use std::marker::Model;
+use std::mem::replace;
 
-/// The ring solver: what it took, what it knows from its own answers, and its basis. Contracts see it as a `State`.
+/// The ring solver: what it took, what it knows from its own answers, and its basis. Contracts see it as a `State`. Besides it
+/// keeps which pairs of basis elements need not be looked at again.
 #[derive(Drop)]
 pub struct Ring {
     state: State,
+    agenda: Agenda,
 }
 
 impl Model for Ring {
     ghost use Rattle.grind_ring_units.specs.declared.types.State.{State};
+    ghost use Rattle.grind_ring_units.specs.Agendas.{IsAgenda};
     ghost use Rattle.grind_ring_solver.specs.Given.{IsState};
 
     ghost Value = { State };
 
     ghost view = { λ a. a.state };
 
-    ghost inverse = { λ state. record { state = state } };
+    ghost invariant = { λ a. IsState a.state × IsAgenda a.state.basis a.agenda };
+}
 
-    ghost invariant = { λ a. IsState a.state };
+// No pairs were looked at.
+fn no_agenda(alloc: Global) -> Agenda
+    ensures { result ≡ no_agenda }
+{
+    Agenda {
+        rows: 0,
+        pairs: List::new(alloc),
+    }
 }
 
 impl Ring {
@@ -51,7 +64,8 @@ impl Ring {
             own: List::new(alloc),
             basis,
         };
-        Ring { state }
+        let agenda = no_agenda(alloc);
+        Ring { state, agenda }
     }
 
     /// Takes the claim of a post: an equality of two whole numbers, or that a polynomial is 0, by the rule `poly`.
@@ -62,7 +76,9 @@ impl Ring {
     pub fn take(&mut self, alloc: Global, post: u32, claim: &Claim) -> Result<(), Memory>
         ensures { OnOk result (IsTaken self.old post claim.now self.new) }
     {
+        let agenda = replace(&mut self.agenda, no_agenda(alloc));
         take(alloc, &mut self.state, post, claim)?;
+        self.agenda = agenda;
         Ok(())
     }
 
@@ -80,7 +96,10 @@ impl Ring {
     ) -> Result<RingStep, Memory>
         ensures { IfOk result (λ step. IsStep self.old terms.now.nodes classes.now.lists next step self.new) }
     {
-        let step = answer(alloc, &mut self.state, terms, classes, next)?;
+        let mut agenda = replace(&mut self.agenda, no_agenda(alloc));
+        let setting = Setting { terms, classes };
+        let step = answer(alloc, &mut self.state, &mut agenda, &setting, next)?;
+        self.agenda = agenda;
         Ok(step)
     }
 
@@ -93,7 +112,8 @@ impl Ring {
         ensures { IfOk result (λ ring. ring ≡ self.now) }
     {
         let state = state_copied(alloc, &self.state)?;
-        Ok(Ring { state })
+        let agenda = agenda_copied(alloc, &self.agenda)?;
+        Ok(Ring { state, agenda })
     }
 
     /// The posts of the basis, in the order in which they joined.

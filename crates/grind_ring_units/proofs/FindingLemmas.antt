@@ -1,5 +1,5 @@
 -- What is found at a fact or at a pair excludes the rest.
-use Rattle.std.proofs.Common.{◌≡◌, inl, inr, List, length, pos, Result, Ok, Err, sym, ap, ◌∙◌, refl, subst}
+use Rattle.std.proofs.Common.{◌≡◌, inl, inr, List, [], length, pos, Result, Ok, Err, sym, ap, ◌∙◌, refl, subst}
 use Rattle.std.proofs.lemmas.Bool.{lt-ltb}
 use Rattle.std.proofs.lemmas.Nat.Gcd.{dvd_antisymm, same_from_IsGcd}
 use Rattle.std.proofs.lemmas.Option.{same_Some}
@@ -22,6 +22,7 @@ use Rattle.grind_ring_basis.specs.Pairs.{IsTooHigh, IsPair, IsPairAt}
 use Rattle.grind_ring_basis.specs.Lines.{IsPostLine, IsPairLine}
 use Rattle.grind_ring_units.specs.declared.types.State.{State}
 use Rattle.grind_ring_units.specs.Given.{IsClaimed}
+use Rattle.grind_ring_units.specs.Agendas.{IsPairSettled}
 use Rattle.grind_ring_units.specs.PairUnits.{AreElements, IsPairReducible, IsPairReduced, WouldJoinPair, IsPairTooLarge, IsPairDone}
 use Rattle.grind_ring_units.specs.PostUnits.{IsJoining, IsReducible, IsReduced, WouldReduce, IsPostTooLarge, IsPostDone}
 
@@ -196,3 +197,20 @@ module _ (state : State) (places : Places) where
 
   pub large_pair_not_joining : IsPairTooLarge state places → ¬ WouldJoinPair state places
   large_pair_not_joining large would = joining_pair_not_large would.0 would.1 would.2 would.3 large
+
+-- ---- a pair that need not be looked at again
+pub settled_done : (state : State) (places : Places) → IsPairSettled state.basis places → IsPairDone state places
+settled_done state places settled = elim settled.1 [
+  | inl it ↦ (
+    it.first,
+    it.second,
+    record { rising = settled.0; first_is = it.first_is; second_is = it.second_is },
+    inl it.high,
+  )
+  | inr it ↦ (
+    it.pair_is.first,
+    it.pair_is.second,
+    record { rising = settled.0; first_is = it.pair_is.first_is; second_is = it.pair_is.second_is },
+    inr (it.pair, it.pair_is, reduced_of (pos 1) [], it.zero, inl refl),
+  )
+]

@@ -5,3 +5,4 @@ pub mod ReadingLemmas
 pub mod EqualLemmas
 pub mod ZeroedLemmas
 pub mod ConflictLemmas
+pub mod AgendaLemmas

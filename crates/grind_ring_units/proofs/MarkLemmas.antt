@@ -1,6 +1,5 @@
 -- What marks say, fact by fact and pair by pair.
-use Rattle.std.proofs.Common.{◌≡◌, ◌⊎◌, inl, inr, ℕ, ◌+◌, ◌<◌, ◌≤◌, Bool, IsTrue, List, [], ◌∷◌, length, Contains, Option, Some, None, MatchOption, nat_lt, arith, sym, refl, subst}
-use Rattle.std.proofs.lemmas.Bool.{cases_Bool, ltb-true, ltb-false}
+use Rattle.std.proofs.Common.{◌≡◌, ◌⊎◌, inl, inr, ℕ, Bool, IsTrue, List, [], ◌∷◌, length, Contains, Option, Some, None, MatchOption, arith, sym, refl, subst}
 use Rattle.grind_ring_basis.specs.declared.types.Fact.{Fact}
 use Rattle.grind_ring_basis.specs.declared.types.Places.{Places}
 use Rattle.grind_ring_units.specs.declared.types.State.{State}
@@ -9,13 +8,12 @@ use Rattle.grind_ring_units.specs.declared.findings.Finding.TheVariants as findi
 use Rattle.grind_ring_units.specs.declared.findings.Marks.{Marks}
 use Rattle.grind_ring_units.specs.declared.findings.Posts.{Posts}
 use Rattle.grind_ring_units.specs.declared.findings.Scan.{Scan}
-use Rattle.grind_ring_units.specs.declared.findings.Scan.TheVariants as scan
 use Rattle.grind_ring_units.specs.PostUnits.{IsJoining, IsPostTooLarge, IsPostDone, WouldReduce}
 use Rattle.grind_ring_units.specs.PairUnits.{IsPairTooLarge, IsPairDone, WouldJoinPair, ArePostsAt}
-use Rattle.grind_ring_units.specs.Findings.{IsFoundAtPost, IsFoundAtPair, IsCase, IsCaseScan, IsFormScan, marked, HasMarks}
-use Rattle.grind_ring_units.specs.Scans.{posts_of, no_marks, OnlyLater, IsOneOf, AreMarked, MayJoin, ArePostsOf, AreMarkedPosts, no_posts, IsPostScan, ArePostsOfPair, IsFrom, IsWithin, AreMarkedPairs, IsPairScan, no_pairs}
+use Rattle.grind_ring_units.specs.Findings.{IsFoundAtPost, IsFoundAtPair, IsCase, IsCaseScan, IsFormScan, marked}
+use Rattle.grind_ring_units.specs.Scans.{posts_of, no_marks, OnlyLater, IsOneOf, AreMarked, MayJoin, ArePostsOf, AreMarkedPosts, no_posts, IsPostScan, ArePostsOfPair, IsWithin, AreMarkedPairs, IsPairScan, no_pairs}
 use Rattle.grind_ring_units.proofs.ListLemmas.{none_listed, first_or_rest, at_first, in_rest}
-use Rattle.grind_ring_units.proofs.FindingLemmas.{done_not_joining, done_not_large, done_not_reduced, reducible_not_joining, reduced_not_large, large_not_joining, large_not_reduced, done_pair_not_large, done_pair_not_joining, joining_pair_not_large, large_pair_not_joining}
+use Rattle.grind_ring_units.proofs.FindingLemmas.{settled_done, done_not_joining, done_not_large, done_not_reduced, reducible_not_joining, reduced_not_large, large_not_joining, large_not_reduced, done_pair_not_large, done_pair_not_joining, joining_pair_not_large, large_pair_not_joining}
 
 -- ---- marks of anything
 module _ (K : Type 0) (all done own large joins : K → Type 0) (are_posts : K → Posts → Type 0) (free : Type 0) where
@@ -132,6 +130,7 @@ module _ (state : State) where
         marked_done Fact (λ (k : Fact). Contains state.taken k) (IsPostDone state) (IsJoining state) (IsPostTooLarge state) (WouldReduce state) ArePostsOf (MayJoin state)
         (λ (k : Fact). Contains rest k) (λ (k : Fact). Contains tail k) marks so_far.are_marked it post_there post_passes
         found (done_not_joining state it found) (done_not_large state it found) (done_not_reduced state it found)
+    marked_posts finding.Settled free found is_free may no_case = absurd found
     marked_posts finding.Own free found is_free may no_case = absurd (no_case tt)
     marked_posts (finding.Form form line) free found is_free may no_case =
         marked_left Fact (λ (k : Fact). Contains state.taken k) (IsPostDone state) (IsJoining state) (IsPostTooLarge state) (WouldReduce state) ArePostsOf (MayJoin state)
@@ -155,6 +154,7 @@ module _ (state : State) where
     pub posts_case : (finding : Finding) (free : Bool) (end : Scan) → IsFoundAtPost state it finding → (IsTrue free → MayJoin state)
         → IsCase free finding → IsCaseScan finding it end → IsPostScan state end
     posts_case finding.Done free end found is_free case ends = absurd case
+    posts_case finding.Settled free end found is_free case ends = absurd case
     posts_case finding.Own free end found is_free case ends = subst (IsPostScan state) (sym ends) (post_there, found)
     posts_case (finding.Form form line) free end found is_free case ends =
         subst (IsPostScan state) (sym ends) (is_free case, it, post_there, found)
@@ -167,115 +167,66 @@ module _ (state : State) where
   posts_end (x ∷ xs) marks none so_far = absurd (omega arith)
 
 -- ---- pairs
-places_of : ℕ → ℕ → Places
-places_of first second = record { first = first; second = second }
-
 module _ (state : State) (count : ℕ) where
-  pub pairs_begin : (marks : Marks) → marks ≡ no_marks → AreMarkedPairs state count (IsFrom 0 0) marks
-  pairs_begin marks none =
-      subst (AreMarkedPairs state count (IsFrom 0 0)) (sym none)
-      (begin_mark Places (IsWithin count) (IsPairDone state) (λ (k : Places). ⊥) (IsPairTooLarge state) (WouldJoinPair state) (ArePostsOfPair state) (MayJoin state)
-      (IsFrom 0 0) each)
-    where
-      each : (k : Places) → IsWithin count k → IsFrom 0 0 k
-      each k there = inl (let above : k.first < k.second = there.0 in omega arith)
+  -- where nothing was looked at, each pair is done or still to come
+  pub pairs_begin : (later : Places → Type 0) (marks : Marks) → marks ≡ no_marks
+      → ((k : Places) → IsWithin count k → IsPairDone state k ⊎ later k) → AreMarkedPairs state count later marks
+  pairs_begin later marks none each =
+      subst (AreMarkedPairs state count later) (sym none) (record {
+        judged = λ k there. elim (each k there) [
+          | inl done ↦ inl (inr done)
+          | inr is_later ↦ inl (inl is_later)
+        ];
+        none_own = λ k there it. absurd it;
+        too_large = λ k there large. elim (each k there) [
+          | inl done ↦ absurd (done_pair_not_large state k done large)
+          | inr is_later ↦ is_later
+        ];
+        would_join = λ k there joins. elim (each k there) [
+          | inl done ↦ absurd (done_pair_not_joining state k done joins)
+          | inr is_later ↦ is_later
+        ];
+        none_left = λ it. refl;
+      })
 
-  pub pairs_end : (last : ℕ) (marks : Marks) → count ≤ last → AreMarkedPairs state count (IsFrom 0 last) marks → AreMarkedPairs state count no_pairs marks
-  pairs_end last marks all_rows so_far =
+  pub pairs_end : (later : Places → Type 0) (marks : Marks) → ((k : Places) → ¬ later k) → AreMarkedPairs state count later marks
+      → AreMarkedPairs state count no_pairs marks
+  pairs_end later marks none so_far =
       marked_on Places (IsWithin count) (IsPairDone state) (λ (k : Places). ⊥) (IsPairTooLarge state) (WouldJoinPair state) (ArePostsOfPair state) (MayJoin state)
-      (IsFrom 0 last) no_pairs marks so_far none
-    where
-      none : (k : Places) → IsWithin count k → IsFrom 0 last k → ⊥
-      none k there from = let low : k.second < count = there.1 in elim from [
-        | inl above ↦ omega arith
-        | inr same ↦ let there_is : k.second ≡ last = same.0 in omega arith
-      ]
+      later no_pairs marks so_far (λ k there is_later. none k is_later)
 
-  pub row_end : (first second : ℕ) (marks : Marks) → second ≤ first → AreMarkedPairs state count (IsFrom first second) marks
-      → AreMarkedPairs state count (IsFrom 0 (second + 1)) marks
-  row_end first second marks whole so_far =
-      marked_on Places (IsWithin count) (IsPairDone state) (λ (k : Places). ⊥) (IsPairTooLarge state) (WouldJoinPair state) (ArePostsOfPair state) (MayJoin state)
-      (IsFrom first second) (IsFrom 0 (second + 1)) marks so_far next
-    where
-      next : (k : Places) → IsWithin count k → IsFrom first second k → IsFrom 0 (second + 1) k
-      next k there from = let rising : k.first < k.second = there.0 in elim from [
-        | inl above ↦ elim (cases_Bool (nat_lt (second + 1) k.second)) [
-          | inl more ↦ inl (ltb-true (second + 1) k.second more)
-          | inr last ↦ let low = ltb-false (second + 1) k.second last in inr (omega arith, omega arith)
-        ]
-        | inr same ↦ absurd (let low : k.second ≡ second = same.0 in let high : first ≤ k.first = same.1 in omega arith)
-      ]
-
-  module _ (first second : ℕ) (marks : Marks) (rising : first < second) (within : second < count)
-      (so_far : AreMarkedPairs state count (IsFrom first second) marks) where
-    pair_passes : (k : Places) → IsFrom first second k → (places_of first second ≡ k) ⊎ IsFrom (first + 1) second k
-    unfolding places_of
-    pair_passes k from = elim from [
-      | inl above ↦ inr (inl above)
-      | inr same ↦ elim (cases_Bool (nat_lt first k.first)) [
-        | inl more ↦ let above = ltb-true first k.first more in inr (inr (same.0, omega arith))
-        | inr last ↦
-            let low = ltb-false first k.first last in
-            let high : first ≤ k.first = same.1 in
-            let one : first ≡ k.first = omega arith in
-            let two : second ≡ k.second = sym same.0 in inl (λ i. record { first = one i; second = two i })
-      ]
-    ]
-
-    marked_pairs : (finding : Finding) (free : Bool) (posts : Posts) → IsFoundAtPair state (places_of first second) finding
-        → (MayJoin state → IsTrue free) → ¬ IsCase free finding → ArePostsAt state (places_of first second) posts.first posts.second
-        → AreMarkedPairs state count (IsFrom (first + 1) second) (marked marks finding posts)
-    unfolding places_of
-    marked_pairs finding.Done free posts found may no_case are =
+  module _ (later next : Places → Type 0) (it : Places) (marks : Marks) (within : IsWithin count it)
+      (passes : (k : Places) → later k → (it ≡ k) ⊎ next k) (so_far : AreMarkedPairs state count later marks) where
+    marked_pair : IsPairDone state it → AreMarkedPairs state count next marks
+    marked_pair done =
         marked_done Places (IsWithin count) (IsPairDone state) (λ (k : Places). ⊥) (IsPairTooLarge state) (WouldJoinPair state) (ArePostsOfPair state) (MayJoin state)
-        (IsFrom first second) (IsFrom (first + 1) second) marks so_far (places_of first second) (rising, within) pair_passes
-        found (λ it. it) (done_pair_not_large state (places_of first second) found) (done_pair_not_joining state (places_of first second) found)
+        later next marks so_far it within passes done (λ own. own) (done_pair_not_large state it done) (done_pair_not_joining state it done)
+
+    marked_pairs : (finding : Finding) (free : Bool) (posts : Posts) → IsFoundAtPair state it finding → (MayJoin state → IsTrue free)
+        → ¬ IsCase free finding → ArePostsAt state it posts.first posts.second → AreMarkedPairs state count next (marked marks finding posts)
+    marked_pairs finding.Done free posts found may no_case are = marked_pair found
+    marked_pairs finding.Settled free posts found may no_case are = marked_pair (settled_done state it found)
     marked_pairs finding.Own free posts found may no_case are = absurd found
     marked_pairs (finding.Form form line) free posts found may no_case are =
         marked_left Places (IsWithin count) (IsPairDone state) (λ (k : Places). ⊥) (IsPairTooLarge state) (WouldJoinPair state) (ArePostsOfPair state) (MayJoin state)
-        (IsFrom first second) (IsFrom (first + 1) second) marks so_far (places_of first second) (rising, within) pair_passes
-        posts are (λ it. it) (joining_pair_not_large state (places_of first second) found.0 form line found.1) (found.0, form, line, found.1)
-        (λ it_may. no_case (may it_may))
+        later next marks so_far it within passes posts are (λ own. own)
+        (joining_pair_not_large state it found.0 form line found.1) (found.0, form, line, found.1) (λ it_may. no_case (may it_may))
     marked_pairs finding.TooLarge free posts found may no_case are =
         marked_large Places (IsWithin count) (IsPairDone state) (λ (k : Places). ⊥) (IsPairTooLarge state) (WouldJoinPair state) (ArePostsOfPair state) (MayJoin state)
-        (IsFrom first second) (IsFrom (first + 1) second) marks so_far (places_of first second) (rising, within) pair_passes
-        posts are (λ it. it) found (large_pair_not_joining state (places_of first second) found)
+        later next marks so_far it within passes posts are (λ own. own) found (large_pair_not_joining state it found)
 
-    pub pairs_step : (finding : Finding) (free : Bool) (posts : Posts) (new : Marks)
-        → IsFoundAtPair state (record { first = first; second = second }) finding → (MayJoin state → IsTrue free) → ¬ IsCase free finding
-        → ArePostsAt state (record { first = first; second = second }) posts.first posts.second → new ≡ marked marks finding posts
-        → AreMarkedPairs state count (IsFrom (first + 1) second) new
-    unfolding places_of
+    pub pairs_step : (finding : Finding) (free : Bool) (posts : Posts) (new : Marks) → IsFoundAtPair state it finding
+        → (MayJoin state → IsTrue free) → ¬ IsCase free finding → ArePostsAt state it posts.first posts.second
+        → new ≡ marked marks finding posts → AreMarkedPairs state count next new
     pairs_step finding free posts new found may no_case are new_is =
-        subst (AreMarkedPairs state count (IsFrom (first + 1) second)) (sym new_is) (marked_pairs finding free posts found may no_case are)
+        subst (AreMarkedPairs state count next) (sym new_is) (marked_pairs finding free posts found may no_case are)
 
 pub pairs_case : (state : State) (count : ℕ) (later : Places → Type 0) (places : Places) (finding : Finding) (free : Bool) (end : Scan)
     → IsFoundAtPair state places finding → (IsTrue free → MayJoin state) → IsCase free finding → IsFormScan finding end
     → IsPairScan state count later end
 pairs_case state count later places finding.Done free end found is_free case ends = absurd case
+pairs_case state count later places finding.Settled free end found is_free case ends = absurd case
 pairs_case state count later places finding.Own free end found is_free case ends = absurd found
 pairs_case state count later places (finding.Form form line) free end found is_free case ends =
     subst (IsPairScan state count later) (sym ends) (is_free case, places, found.0, found.1)
 pairs_case state count later places finding.TooLarge free end found is_free case ends = absurd case
-
--- ---- rows
-none_some : (x : Marks) → None ≡ Some x → ⊥
-none_some x e = cc
-
-some_same : (x y : Marks) → Some x ≡ Some y → x ≡ y
-some_same x y e = cc
-
-some_none : (x : Marks) → Some x ≡ None → ⊥
-some_none x e = cc
-
-module _ (state : State) (count : ℕ) (later : Places → Type 0) where
-  pub row_ends : (end : Scan) → IsPairScan state count later end → HasMarks end None → IsPairScan state count no_pairs end
-  row_ends (scan.Own it) is none = absurd is
-  row_ends (scan.Form rest line) is none = is
-  row_ends (scan.Nothing marks) is none = absurd (none_some marks none)
-
-  pub row_marks : (end : Scan) (more : Marks) → IsPairScan state count later end → HasMarks end (Some more) → AreMarkedPairs state count later more
-  row_marks (scan.Own it) more is some = absurd is
-  row_marks (scan.Form rest line) more is some = absurd (some_none more some)
-  row_marks (scan.Nothing marks) more is some =
-      subst (AreMarkedPairs state count later) (sym (some_same more marks some)) is

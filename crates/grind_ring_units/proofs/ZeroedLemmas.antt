@@ -4,16 +4,20 @@ use Rattle.std.proofs.lemmas.Bool.{false≢true}
 use Rattle.std.proofs.lemmas.Option.{none-some, same_Some}
 use Rattle.grind_term_graph.specs.declared.node.Node.{Node}
 use Rattle.grind_polynomials.specs.declared.poly.Term.{Term}
+use Rattle.grind_polynomials.specs.Polynomials.{IsPoly}
 use Rattle.grind_normal_forms.specs.declared.reduction.Reduced.{Reduced}
 use Rattle.grind_differences.specs.Differences.{poly_difference}
+use Rattle.grind_ring_basis.specs.declared.types.Basis.{Basis}
 use Rattle.grind_ring_basis.specs.declared.types.Fact.{Fact}
 use Rattle.grind_ring_basis.specs.declared.types.Pair.{Pair}
 use Rattle.grind_ring_basis.specs.declared.types.Places.{Places}
 use Rattle.grind_ring_basis.specs.Bases.{fact, HasNormalForm}
 use Rattle.grind_ring_basis.specs.Pairs.{IsPairAt}
+use Rattle.grind_ring_basis.proofs.LineLemmas.{reduces_to_zero}
 use Rattle.grind_ring_units.specs.declared.types.Equality.{Equality}
 use Rattle.grind_ring_units.specs.declared.types.State.{State}
 use Rattle.grind_ring_units.specs.Given.{IsAmong, IsClaimed}
+use Rattle.grind_ring_units.specs.Agendas.{IsPairSettled}
 use Rattle.grind_ring_units.specs.Zeroed.{LacksZero}
 use Rattle.grind_ring_units.specs.PostUnits.{IsReducible}
 use Rattle.grind_ring_units.specs.PairUnits.{IsPairReducible, IsPairDone}
@@ -83,3 +87,10 @@ module _ (state : State) (places : Places) (pair : Pair) (normal : Reduced) (ris
     record { rising = rising; first_is = pair_is.first_is; second_is = pair_is.second_is },
     inr (pair, pair_is, normal, is, done),
   )
+
+pub zero_settled : (basis : Basis) (places : Places) (pair : Pair) (normal : Reduced) → places.first < places.second
+    → IsPairAt basis places pair → IsPoly pair.poly → HasNormalForm basis pair.poly normal → normal.rest ≡ [] → IsPairSettled basis places
+zero_settled basis places pair normal rising is poly normal_is none = (
+  rising,
+  inr (record { pair = pair; pair_is = is; poly = poly; zero = reduces_to_zero basis pair.poly normal normal_is none }),
+)

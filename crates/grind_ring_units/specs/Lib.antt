@@ -2,6 +2,7 @@ pub mod Given
 pub mod Zeroed
 pub mod PostUnits
 pub mod PairUnits
+pub mod Agendas
 pub mod Conflicts
 pub mod EqualTerms
 pub mod Scans

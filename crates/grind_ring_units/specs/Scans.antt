@@ -1,5 +1,5 @@
 -- What a pass over all facts that were taken, or over all pairs of basis elements, tells.
-use Rattle.std.specs.Prelude.{◌≡◌, ℕ, ◌<◌, ◌≤◌, ◌⊎◌, Contains, None, MatchOption}
+use Rattle.std.specs.Prelude.{◌≡◌, ℕ, ◌<◌, ◌⊎◌, Contains, None, MatchOption}
 use Rattle.grind_ring_basis.specs.declared.types.Fact.{Fact}
 use Rattle.grind_ring_basis.specs.declared.types.Pair.{Pair}
 use Rattle.grind_ring_basis.specs.declared.types.Places.{Places}
@@ -63,10 +63,6 @@ IsPostScan state (scan.Nothing marks) = AreMarkedPosts state no_posts marks
 -- the posts of two elements
 abbrev pub ArePostsOfPair : State → Places → Posts → Type 0
 ArePostsOfPair state places posts = ArePostsAt state places posts.first posts.second
-
--- the pair is this one or comes after it, row by row
-abbrev pub IsFrom : ℕ → ℕ → Places → Type 0
-IsFrom first second places = (second < places.second) ⊎ ((places.second ≡ second) × (first ≤ places.first))
 
 -- the earlier element stands first, and both are there
 abbrev pub IsWithin : ℕ → Places → Type 0

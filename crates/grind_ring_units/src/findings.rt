@@ -1,7 +1,7 @@
 //! What is found at polynomials that are to be reduced, and what a pass over all of them tells.
 ghost use Rattle.std.specs.Prelude.{◌≡◌, ◌↔◌, IsTrue};
 ghost use Rattle.grind_ring_units.specs.Scans.{no_marks, MayJoin};
-ghost use Rattle.grind_ring_units.specs.Findings.{marked, IsCase, IsCaseScan, IsFormScan, HasMarks};
+ghost use Rattle.grind_ring_units.specs.Findings.{marked, IsCase, IsCaseScan, IsFormScan};
 
 use crate::types::State;
 use grind_polynomials::Poly;
@@ -12,6 +12,8 @@ use grind_ring_basis::{Combination, Fact};
 pub(crate) enum Finding {
     // Its normal form is 0, or a post says that it is.
     Done,
+    // It is reduced to 0, or its degree is too high: it stays so.
+    Settled,
     // It is its own normal form.
     Own,
     // Its normal form, and the line by which that is 0.
@@ -67,6 +69,7 @@ pub(crate) fn marked(marks: Marks, finding: &Finding, posts: Posts) -> Marks
 {
     match finding {
         Finding::Done => marks,
+        Finding::Settled => marks,
         Finding::Own => marks,
         Finding::Form { rest: _, line: _ } => Marks {
             too_large: marks.too_large,
@@ -107,16 +110,5 @@ pub(crate) fn form_of(finding: Finding) -> Scan
     match finding {
         Finding::Form { rest, line } => Scan::Form { rest, line },
         _ => Scan::Nothing(no_marks()),
-    }
-}
-
-// The marks of a scan in which nothing joins.
-pub(crate) fn marks_of(scan: &Scan) -> Option<Marks>
-    ensures { HasMarks scan.now result }
-{
-    match scan {
-        Scan::Own(_) => None,
-        Scan::Form { rest: _, line: _ } => None,
-        Scan::Nothing(marks) => Some(*marks),
     }
 }

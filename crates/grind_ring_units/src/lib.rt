@@ -10,7 +10,7 @@ pub mod types;
 pub mod units;
 
 pub use findings::{Marks, Posts, Scan};
-pub use types::{Equality, State};
+pub use types::{Agenda, Equality, State};
 pub use units::conflicts::first_conflict;
 pub use units::equal_terms::{EqualTerms, first_equal};
 pub use units::pairs::scan_pairs;

@@ -1,6 +1,6 @@
 //! What a ring solver knows.
 use grind_outside::List;
-use grind_ring_basis::{Basis, Fact};
+use grind_ring_basis::{Basis, Fact, Places};
 use grind_term_graph::NodeId;
 
 /// A post that says that two whole numbers are equal.
@@ -29,4 +29,13 @@ pub struct State {
     pub own: List<Fact>,
     /// The basis.
     pub basis: Basis,
+}
+
+/// Which pairs of basis elements are to be looked at.
+#[derive(Drop)]
+pub struct Agenda {
+    /// The pairs of so many elements were entered.
+    pub rows: u32,
+    /// Those of them that are left: each other one has a degree that is too high, or was reduced to 0.
+    pub pairs: List<Places>,
 }

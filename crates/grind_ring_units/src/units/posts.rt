@@ -97,6 +97,7 @@ fn case_at(alloc: Global, finding: Finding, it: &Fact) -> Result<Scan, Memory>
         }
         Finding::Form { rest, line } => Ok(Scan::Form { rest, line }),
         Finding::Done => Ok(Scan::Nothing(no_marks())),
+        Finding::Settled => Ok(Scan::Nothing(no_marks())),
         Finding::TooLarge => Ok(Scan::Nothing(no_marks())),
     }
 }

@@ -1,12 +1,12 @@
-use Rattle.std.proofs.Common.{inl, inr, sym, ◌∙◌}
+use Rattle.std.proofs.Common.{inr, sym, ◌∙◌}
 use Rattle.std.proofs.lemmas.Bool.{false≢true}
-use Rattle.grind_ring_units.proofs.ZeroedLemmas.{pair_reducible, pair_done}
+use Rattle.grind_ring_units.proofs.ZeroedLemmas.{pair_reducible, pair_done, zero_settled}
 use Rattle.grind_ring_units.proofs.units.pairs.found_by_form.Goals as goal
 
 pub returns-then-is_zero : goal.returns-then-is_zero
 returns-then-is_zero c =
-    pair_done c.args.state.now c.args.places c.args.pair.now c.args.normal c.requires.rising c.requires.pair c.requires.normal
-    (inl (c.is_zero.ensures.0 c.if-is_zero.true))
+    zero_settled c.args.state.now.basis c.args.places c.args.pair.now c.args.normal c.requires.rising c.requires.pair
+    c.terms-terms.ensures.keeps c.requires.normal (c.is_zero.ensures.0 c.if-is_zero.true)
 
 pub returns-then-is_claimed : goal.returns-then-is_claimed
 returns-then-is_claimed c =

@@ -1,0 +1,3 @@
+pub mod UnreadLemmas
+pub mod PairLemmas
+pub mod LeftLemmas

@@ -1,0 +1,2 @@
+pub mod PinchLemmas
+pub mod SettleLemmas

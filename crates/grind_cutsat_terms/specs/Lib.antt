@@ -1,0 +1,2 @@
+pub mod Pinching
+pub mod Settling
